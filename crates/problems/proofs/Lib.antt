@@ -1,0 +1,9 @@
+pub mod Paths
+pub mod Ruling
+pub mod Mapping
+pub mod Schemas
+pub mod Standings
+pub mod Problems
+pub mod Tokening
+pub mod Pathing
+pub mod Laying

@@ -1,0 +1,3 @@
+// Registers behind one interface.
+pub mod held;
+pub mod register;

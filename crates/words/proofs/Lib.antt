@@ -1,0 +1,9 @@
+pub mod Inverse
+pub mod Single
+pub mod Runs
+pub mod Items
+pub mod Standing
+pub mod Parts
+pub mod Rows
+pub mod Files
+pub mod Layouts
