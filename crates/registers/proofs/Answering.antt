@@ -16,7 +16,7 @@ use Rattle.words.specs.declared.faults.SchemaFault.{SchemaFault}
 use Rattle.words.specs.Words.{giving}
 use Rattle.words.specs.Register.{Row, File, link, links-of, read}
 use Rattle.words.specs.Outline.{places, outline-of}
-use Rattle.registers.specs.Meaning.{no-row, row-at, no-file, or-none, file, answers}
+use Rattle.registers.specs.Meaning.{Lawful, no-row, row-at, no-file, or-none, file, answers}
 use Rattle.registers.specs.Holding.{kept}
 use Rattle.words.proofs.Inverse.{err-ok}
 use Rattle.words.proofs.Single.{Stood, word-told, counted-told}
@@ -169,3 +169,11 @@ module _ (ws : List ℕ) (kinds links : ℕ) (ps : List ℕ) (kinded : kinds ≡
       let t = ends-told l x e in
       let q : n ≡ answers (file ws) .count (row-at (file ws) l .from) = c ∙ ap (answers (file ws) .count) (t .1) in
       follow-none l r (t .0) (omega arith)
+
+  pub held-lawful : Lawful (answers (file ws))
+  held-lawful = record {
+    unknown-kind = λ k h. sym (count-none k (omega arith));
+    known-link = λ l h. let t : ltb l (length (file ws .links)) ≡ true = grind (arith, tells) in rw t tt;
+    unknown-link = λ l h. grind (arith, tells);
+    leads-unknown = λ l r h. grind (arith, tells);
+    leads-uncounted = λ l r e q h. sym (follow-stops l r (answers (file ws) .count (e .0)) e (sym q) refl h) }

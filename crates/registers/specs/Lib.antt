@@ -1,2 +1,7 @@
 pub mod Meaning
 pub mod Holding
+pub mod Wheels
+pub mod Turning
+pub mod Blanks
+pub mod Writing
+pub mod WriteFaults

@@ -1,7 +1,8 @@
 -- What a register means: its five answers at every number.
+use mathlib.Core.Path.{_≡_}
 use mathlib.Core.Bool.{cond}
 use mathlib.Core.List.{List, []}
-use Prim.Native.Nat.{ℕ}
+use Prim.Native.Nat.{ℕ, _<_, _≤_}
 use lib.Dec.{ltb}
 use lib.ListN.{length, getD}
 use Rattle.std.specs.declared.option.Option.{Option}
@@ -17,6 +18,20 @@ pub record Meaning : Type 0 where
   pub ends : ℕ → Option (ℕ × ℕ)
   pub count : ℕ → ℕ
   pub follow : ℕ → ℕ → Option ℕ
+
+-- an answer that is there
+abbrev pub Given : {X : Type 0} → Option X → Type 0
+Given (Some x) = Unit {0}
+Given None = ⊥
+
+-- What every register keeps to: an unknown kind counts 0; the known links are those that have ends;
+-- an unknown link or an uncounted record leads to nothing.
+pub record Lawful (m : Meaning) : Type 0 where
+  pub unknown-kind : (k : ℕ) → m .kinds ≤ k → m .count k ≡ 0
+  pub known-link : (l : ℕ) → l < m .links → Given (m .ends l)
+  pub unknown-link : (l : ℕ) → m .links ≤ l → m .ends l ≡ None
+  pub leads-unknown : (l r : ℕ) → m .links ≤ l → m .follow l r ≡ None
+  pub leads-uncounted : (l r : ℕ) (e : ℕ × ℕ) → m .ends l ≡ Some e → m .count (e .0) ≤ r → m .follow l r ≡ None
 
 abbrev pub no-row : Row
 no-row = record { from = 0; to = 0; leads = [] }
