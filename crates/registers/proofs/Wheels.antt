@@ -7,6 +7,8 @@ use Prim.Native.Nat.{ℕ, _+_, _%_, _<_, _≤_, min}
 use native.Mathlib.Omega.{arith}
 use lib.Dec.{ltb, eqb}
 use lib.ListN.{length, getD, take}
+use Rattle.std.proofs.shelf.Lists.{take-all}
+use Rattle.std.proofs.shelf.Tests.{cases-lt}
 use Rattle.std.proofs.shelf.Ways.{tells}
 use Rattle.std.specs.declared.option.Option.{Option}
 use Rattle.std.specs.declared.option.Option.the-variants.{Some, None}
@@ -27,6 +29,6 @@ wheel-lawful m steps = record {
 
 pub take-min : (xs : List ℕ) (n : ℕ) → take (min (length xs) n) xs ≡ take n xs
 take-min xs n = ⊎-elim
-    (λ (h : length xs ≤ n). let m : min (length xs) n ≡ length xs = omega arith in rw m (take-all (length xs) xs (omega arith) ∙ sym (take-all n xs h)))
-    (λ (h : n < length xs). let m : min (length xs) n ≡ n = omega arith in rw m refl)
-    (cases-le (length xs) n)
+    (λ (h : n < length xs). let m : min (length xs) n ≡ n = omega arith in ap (λ k. take k xs) m)
+    (λ (h : length xs ≤ n). let m : min (length xs) n ≡ length xs = omega arith in ap (λ k. take k xs) m ∙ take-all (length xs) xs (omega arith) ∙ sym (take-all n xs h))
+    (cases-lt n (length xs))
