@@ -11,7 +11,7 @@ use Rattle.std.proofs.shelf.Lists.{drop-more, set-at, take-more, take-at, drop-
 use Rattle.std.proofs.shelf.Parts.{take-putMid, drop-putMid}
 use Rattle.streams.specs.Order.{four, bytesOf, wordAt, wordsOf}
 
-words-length : (bs : List ℕ) (n : ℕ) → length (wordsOf bs n) ≡ n
+pub words-length : (bs : List ℕ) (n : ℕ) → length (wordsOf bs n) ≡ n
 words-length bs zero = refl
 words-length bs (suc n) = simp length-append (let h = words-length bs n in omega arith)
 
@@ -99,3 +99,16 @@ words-back ws rest (suc n) k l m h =
     ∙ ap (λ x. take n ws ++ x ∷ []) (w ∙ same)
     ∙ sym (take-more ws n 0 n<l)
     ∙ ap (λ x. take x ws) (add-one n)
+
+-- words that stand in a front of the bytes
+word-take : (bs : List ℕ) (i k : ℕ) → 4 * i + 4 ≤ k → wordAt (take k bs) i ≡ wordAt bs i
+word-take bs i k h =
+    let a = getD-take k bs (4 * i) 0 (omega arith) in
+    let b = getD-take k bs (4 * i + 1) 0 (omega arith) in
+    let c = getD-take k bs (4 * i + 2) 0 (omega arith) in
+    let d = getD-take k bs (4 * i + 3) 0 (omega arith) in
+    cc
+
+pub words-take : (bs : List ℕ) (n k : ℕ) → 4 * n ≤ k → wordsOf (take k bs) n ≡ wordsOf bs n
+words-take bs zero k h = refl
+words-take bs (suc n) k h = let e = words-take bs n k (omega arith) in let w = word-take bs n k (omega arith) in cc

@@ -4,7 +4,7 @@ use mathlib.Core.Bool.{cond}
 use mathlib.Core.List.{List, [], _∷_}
 use Prim.Native.Nat.{ℕ, _/_}
 use lib.Dec.{ltb, leb}
-use lib.ListN.{length, take}
+use lib.ListN.{length, getD, take}
 use Rattle.std.specs.declared.result.Result.{Result}
 use Rattle.std.specs.declared.result.Result.the-variants.{Ok, Err}
 use Rattle.words.specs.declared.faults.Fault.{Fault}
@@ -20,7 +20,7 @@ use Rattle.registers.specs.WriteFaults.{write-fault}
 use Rattle.registers.specs.Meaning.{answers}
 use Rattle.registers.specs.Blanks.{blank}
 use Rattle.registers.specs.Writing.{words-of}
-use Rattle.streams.specs.Order.{wordAt, wordsOf}
+use Rattle.streams.specs.Order.{wordsOf}
 
 -- the whole words of bytes; a cut last word is left out
 abbrev pub whole : List ℕ → List ℕ
@@ -54,8 +54,10 @@ abbrev pub held : Result ℕ Fault → List ℕ → Result (List ℕ) Fault
 held (Ok n) ws = Ok (take n ws)
 held (Err f) ws = Err f
 
--- Unless the output begins with a fault word, both sides are register files,
--- and the output's, which has no landings, means what the input's means without its blanks.
+-- the words are a register file without landings that means what the input means without its blanks
+abbrev pub Rewritten : List ℕ → List ℕ → Type 0
+Rewritten input ws = (f : File) × (g : File) × (read (whole input) ≡ Ok f) × (read ws ≡ Ok g) × (g .landings ≡ []) × (answers g ≡ blank (answers f))
+
+-- unless the output begins with a fault word, it is such a register file
 abbrev pub Unblanks : List ℕ → List ℕ → Type 0
-Unblanks input output = (tag (wordAt output 0) ≡ number tags.Fault → ⊥)
-  → (f : File) × (g : File) × (read (whole input) ≡ Ok f) × (read (whole output) ≡ Ok g) × (g .landings ≡ []) × (answers g ≡ blank (answers f))
+Unblanks input output = (tag (getD (whole output) 0 0) ≡ number tags.Fault → ⊥) → Rewritten input (whole output)

@@ -2,10 +2,10 @@
 ghost use mathlib.Core.Path.{_≡_};
 ghost use mathlib.Core.List.{_++_};
 ghost use Prim.Native.Nat.{_*_, _≤_};
-ghost use lib.ListN.{length, drop};
+ghost use lib.ListN.{length, take, drop};
 ghost use Rattle.std.specs.Vec.{made};
 ghost use Rattle.streams.specs.Order.{bytesOf};
-ghost use Rattle.streams.specs.Unblank.{answer, held as heldOf, sent};
+ghost use Rattle.streams.specs.Unblank.{answer, held as heldOf, sent, Rewritten, Unblanks};
 use crate::bytes::to_bytes;
 use crate::bytes::to_words;
 use registers::blank::Blank;
@@ -27,6 +27,7 @@ pub const WORDS: usize = 8192;
 fn unblanked(input: &[u8], words: &mut [u32; WORDS], kept: &mut [u32; WORDS]) -> Result<usize, Fault>
     ensures room { λ r. ⌜ made r (λ n. n ≤ 8192) ⌝ }
     ensures answer { λ r. ⌜ heldOf r (now (kept .exit)) ≡ answer (now (input .entry)) ⌝ }
+    ensures files { λ r. ⌜ made r (λ n. Rewritten (now (input .entry)) (take n (now (kept .exit)))) ⌝ }
 {
     if input.len() > BYTES {
         return Err(Fault { refusal: Refusal::Limit, place: WORDS });
@@ -42,6 +43,7 @@ fn unblanked(input: &[u8], words: &mut [u32; WORDS], kept: &mut [u32; WORDS]) ->
 pub fn unblank(input: &[u8], words: &mut [u32; WORDS], kept: &mut [u32; WORDS], output: &mut [u8; BYTES]) -> usize
     ensures count { λ r. ⌜ r ≡ 4 * length (sent (answer (now (input .entry)))) ⌝ }
     ensures bytes { λ r. ⌜ now (output .exit) ≡ bytesOf (sent (answer (now (input .entry)))) ++ drop r (now (output .entry)) ⌝ }
+    ensures files { λ r. ⌜ Unblanks (now (input .entry)) (take r (now (output .exit))) ⌝ }
 {
     match unblanked(input, words, kept) {
         Ok(count) => to_bytes(&kept[..count], output),
