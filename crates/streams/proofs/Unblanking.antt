@@ -96,12 +96,13 @@ write-done (Err y) out after n room e k = absurd (let z : _≡_ {A = ℕ} 0 1 = 
 -- all words of an answer are sent, and they are read back from what was sent
 pub delivered : (ws out after : List ℕ) (r : ℕ) (a : Result (List ℕ) Fault) → ws ≡ sent a → length ws ≤ 8192 → length out ≡ 32768 → length after ≡ length out
   → r ≡ 4 * min (length ws) (length out / 4) → after ≡ bytesOf (take (r / 4) ws) ++ drop r out → wordsOf after (r / 4) ≡ take (r / 4) ws
-  → (r ≡ 4 * length (sent a)) × (after ≡ bytesOf (sent a) ++ drop r out) × (whole (take r after) ≡ ws)
+  → (r ≤ 32768) × (r ≡ 4 * length (sent a)) × (after ≡ bytesOf (sent a) ++ drop r out) × (whole (take r after) ≡ ws)
 delivered ws out after r a is few room same count bytes back =
     let n : r ≡ 4 * length ws = omega arith in
     let le : r ≤ length after = omega arith in
     let all : take (r / 4) ws ≡ ws = take-all (r / 4) ws (omega arith) in
-    (n ∙ ap (λ x. 4 * length x) is,
+    (omega arith,
+     n ∙ ap (λ x. 4 * length x) is,
      bytes ∙ ap (λ x. bytesOf x ++ drop r out) (all ∙ is),
      ap (λ n. wordsOf (take r after) (n / 4)) (length-take-le r after le) ∙ words-take after (r / 4) r (omega arith) ∙ back ∙ all)
 

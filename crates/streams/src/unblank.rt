@@ -41,6 +41,7 @@ fn unblanked(input: &[u8], words: &mut [u32; WORDS], kept: &mut [u32; WORDS]) ->
 
 // The answer to the input at the front of the output; tells how many bytes.
 pub fn unblank(input: &[u8], words: &mut [u32; WORDS], kept: &mut [u32; WORDS], output: &mut [u8; BYTES]) -> usize
+    ensures room { λ r. ⌜ r ≤ 32768 ⌝ }
     ensures count { λ r. ⌜ r ≡ 4 * length (sent (answer (now (input .entry)))) ⌝ }
     ensures bytes { λ r. ⌜ now (output .exit) ≡ bytesOf (sent (answer (now (input .entry)))) ++ drop r (now (output .entry)) ⌝ }
     ensures files { λ r. ⌜ Unblanks (now (input .entry)) (take r (now (output .exit))) ⌝ }

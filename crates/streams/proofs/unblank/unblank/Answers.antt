@@ -13,11 +13,11 @@ returns-in-Ok c =
     let few : length (take (c .in-Ok .count) (c .unblanked .last .kept)) ≤ 8192 = simp length-take (let h = c .in-Ok .ensures tt .room in omega arith) in
     let e = c .to-bytes .ensures in
     let d = delivered _ _ _ _ (answer (c .args .input .now)) (ap sent (c .in-Ok .ensures tt .answer)) few (c .told-output) (c .to-bytes .kept .bytes) (e .count) (e .bytes) (e .back) in
-    record { count = d .0; bytes = d .1; files = λ _. subst (Rewritten (c .args .input .now)) (sym (d .2)) (c .in-Ok .ensures tt .files) }
+    record { room = d .0; count = d .1; bytes = d .2; files = λ _. subst (Rewritten (c .args .input .now)) (sym (d .3)) (c .in-Ok .ensures tt .files) }
 
 pub returns-in-Err : need.returns-in-Err
 returns-in-Err c =
     let e = c .to-bytes-in-Err .ensures in
     let is = ap (λ w. w ∷ []) (c .word .ensures) ∙ ap sent (c .in-Err .ensures tt .answer) in
     let d = delivered (c .word .result ∷ []) _ _ _ (answer (c .args .input .now)) is (lit≤ tt) (c .told-output) (c .to-bytes-in-Err .kept .bytes) (e .count) (e .bytes) (e .back) in
-    record { count = d .0; bytes = d .1; files = λ no. absurd (no (fault-first _ _ _ (d .2) (c .word .ensures) (c .word .ok))) }
+    record { room = d .0; count = d .1; bytes = d .2; files = λ no. absurd (no (fault-first _ _ _ (d .3) (c .word .ensures) (c .word .ok))) }
