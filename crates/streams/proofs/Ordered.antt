@@ -100,6 +100,14 @@ words-back ws rest (suc n) k l m h =
     ∙ sym (take-more ws n 0 n<l)
     ∙ ap (λ x. take x ws) (add-one n)
 
+-- the loop's last turn: n words were written, as 4 * n bytes
+pub all-written : (ws bs after : List ℕ) (i n : ℕ) → i ≡ n → n ≤ length ws → after ≡ bytesOf (take i ws) ++ drop (4 * i) bs → ((k : ℕ) → getD ws k 0 < 2 ^ 32)
+  → (after ≡ bytesOf (take (4 * n / 4) ws) ++ drop (4 * n) bs) × (wordsOf after (4 * n / 4) ≡ take (4 * n / 4) ws)
+all-written ws bs after i n e m h fits =
+    let q : 4 * n / 4 ≡ n = omega arith in
+    let s : bytesOf (take i ws) ++ drop (4 * i) bs ≡ bytesOf (take n ws) ++ drop (4 * n) bs = ap (λ k. bytesOf (take k ws) ++ drop (4 * k) bs) e in
+    rw q (h ∙ s, ap (λ x. wordsOf x n) (h ∙ s) ∙ words-back ws (drop (4 * n) bs) n n (omega arith) m fits)
+
 -- words that stand in a front of the bytes
 word-take : (bs : List ℕ) (i k : ℕ) → 4 * i + 4 ≤ k → wordAt (take k bs) i ≡ wordAt bs i
 word-take bs i k h =

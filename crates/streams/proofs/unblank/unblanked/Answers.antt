@@ -1,13 +1,11 @@
 use mathlib.Core.Path.{_≡_, refl, sym, ap, _∙_}
 use borrow.Author.Needs.{needs}
-use Rattle.std.specs.declared.result.Result.the-variants.{Ok, Err}
+use Rattle.std.specs.declared.result.Result.the-variants.{Ok}
 use Rattle.std.proofs.shelf.Results.{made-from-err}
 use Rattle.words.specs.Register.{read}
-use Rattle.registers.specs.Meaning.{file, answers}
-use Rattle.registers.specs.Blanks.{blank}
-use Rattle.registers.specs.Writing.{words-of}
+use Rattle.registers.specs.Meaning.{file}
 use Rattle.registers.specs.WriteFaults.{write-fault}
-use Rattle.streams.specs.Unblank.{answer, held, faulted, whole}
+use Rattle.streams.specs.Unblank.{answer, faulted, whole}
 use Rattle.streams.proofs.Unblanking.{carried, read-refused, read-done, answer-file, write-refused, write-done}
 use Rattle.streams.proofs.unblank.unblanked.Needs as need
 use Rattle.streams.proofs.unblank.unblanked.Needs.{After-write, at·returns, at·returns-in-Break-count}
@@ -34,7 +32,7 @@ file-read c =
 
 pub returns-in-Break-count : need.returns-in-Break-count
 returns-in-Break-count c =
-    let w = write-refused _ _ _ (c .told-kept) (sym (ap (λ x. x .0) (c .in-Break-count .ensures tt .answer))) in
+    let w = write-refused _ _ _ _ (c .told-kept) (c .in-Break-count .ensures tt .answer) in
     let a = answer-file _ _ (c .if-input-gt-BYTES .left) (file-read (at·returns-in-Break-count c .After-write)) in
     record {
       room = made-from-err _ _ (c .from-residual-in-Break-count .ensures .0);
@@ -44,8 +42,7 @@ returns-in-Break-count c =
 
 pub returns : need.returns
 returns c =
-    let e = c .in-Continue-count .ensures tt .answer in
-    let w = write-done _ _ _ _ (c .told-kept) (sym (ap (λ x. x .0) e)) (sym (ap (λ x. x .1) e)) in
+    let w = write-done _ _ _ _ (c .told-kept) (c .in-Continue-count .ensures tt .answer) in
     let f = file-read (at·returns c .After-write) in
     let g = c .in-Continue-count .ensures tt .back _ refl in
     record {
