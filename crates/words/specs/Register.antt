@@ -1,4 +1,4 @@
--- The register file: what it holds, how it is laid out, and how it is read.
+-- The register file: what it holds, and how it is read.
 use mathlib.Core.Path.{_≡_}
 use mathlib.Core.Bool.{Bool, true, false, cond, _&&_}
 use mathlib.Core.List.{List, [], _∷_, _++_, map}
@@ -11,8 +11,8 @@ use Rattle.words.specs.declared.faults.WordFault.{WordFault}
 use Rattle.words.specs.declared.faults.WordFault.the-variants.{Missing, Wrong, Limit}
 use Rattle.words.specs.declared.faults.SchemaFault.{SchemaFault}
 use Rattle.words.specs.declared.faults.SchemaFault.the-variants.{Words, Unknown, Unjoined}
-use Rattle.words.specs.Words.{word, starts, then, worded, many}
-use Rattle.words.specs.declared.tags.Tag.{Tag}
+use Rattle.words.specs.Words.{word, starts, then, worded}
+use Rattle.words.specs.Items.{items, run, sizes}
 use Rattle.words.specs.declared.tags.Tag.the-variants as tag
 
 -- a link, or the landings of a source kind: its ends, and where each record leads
@@ -36,11 +36,11 @@ counted m ws at = then (worded (word tag.Record ws at)) (λ v. cond (ltb v m) (O
 
 -- the records that follow the word at a place
 abbrev pub row : List ℕ → List ℕ → ℕ → ℕ → ℕ → ℕ → Result Row SchemaFault
-row cs ws at n from to = then (many (counted (getD cs to 0) ws) n (at + 1)) (λ rs. Ok (record { from = from; to = to; leads = rs }))
+row cs ws at n from to = then (run (counted (getD cs to 0) ws) n (at + 1)) (λ rs. Ok (record { from = from; to = to; leads = rs }))
 
 -- a link; there is room for that many
-abbrev pub link : ℕ → List ℕ → List ℕ → ℕ → Result Row SchemaFault
-link room cs ws at =
+abbrev pub link : List ℕ → List ℕ → ℕ → ℕ → Result Row SchemaFault
+link cs ws room at =
   then (worded (word tag.RegisterLink ws at)) (λ v.
     cond (eqb room 0) (Err (Words (Limit at)))
       (cond (ltb (v / 256) (length cs) && ltb (v % 256) (length cs))
@@ -48,8 +48,8 @@ link room cs ws at =
         (Err (Unknown at))))
 
 -- the landings of a source kind, which is 32 less the room
-abbrev pub landing : ℕ → List ℕ → List ℕ → ℕ → Result Row SchemaFault
-landing room cs ws at =
+abbrev pub landing : List ℕ → List ℕ → ℕ → ℕ → Result Row SchemaFault
+landing cs ws room at =
   then (worded (word tag.Landings ws at)) (λ v.
     cond (eqb room 0) (Err (Words (Limit at)))
       (cond (eqb (v / 256 % 256 + room) 32 && ltb (v % 256) (length cs))
@@ -60,39 +60,29 @@ landing room cs ws at =
 abbrev pub span : Row → ℕ
 span l = 1 + length (l .leads)
 
--- rows as long as a tag comes; each is read in its turn, with the room left
-unfoldable pub rows : Tag → (ℕ → ℕ → Result Row SchemaFault) → List ℕ → ℕ → ℕ → Result (List Row) SchemaFault
-rows t f ws zero at = cond (starts t ws at) (then (f 0 at) (λ l. Ok [])) (Ok [])
-rows t f ws (suc room) at =
-  cond (starts t ws at)
-    (then (f (suc room) at) (λ l. then (rows t f ws room (at + span l)) (λ ls. Ok (l ∷ ls))))
-    (Ok [])
-
-abbrev pub spans : List Row → ℕ
-spans [] = 0
-spans (l ∷ ls) = span l + spans ls
-
 -- the end, behind that many words
 abbrev pub end : List ℕ → ℕ → Result ℕ WordFault
 end ws at = then (word tag.End ws at) (λ v. cond (eqb v at) (cond (eqb (length ws) (at + 1)) (Ok at) (Err (Wrong (at + 1)))) (Err (Wrong at)))
 
 -- the counts
 abbrev pub counts-of : List ℕ → Result (List ℕ) SchemaFault
-counts-of ws = then (worded (word tag.Register ws 0)) (λ n. cond (ltb 32 n) (Err (Words (Limit 0))) (many (count ws) n 1))
+counts-of ws = then (worded (word tag.Register ws 0)) (λ n. cond (ltb 32 n) (Err (Words (Limit 0))) (run (count ws) n 1))
 
+-- the links
 abbrev pub links-of : List ℕ → List ℕ → Result (List Row) SchemaFault
-links-of cs ws = rows tag.RegisterLink (λ room at. link room cs ws at) ws 64 (1 + length cs)
+links-of cs ws = items span (λ room p. starts tag.RegisterLink ws p) (link cs ws) 64 (1 + length cs)
 
+-- the landings
 abbrev pub landings-of : List ℕ → List ℕ → ℕ → Result (List Row) SchemaFault
-landings-of cs ws at = rows tag.Landings (λ room at. landing room cs ws at) ws 32 at
+landings-of cs ws at = items span (λ room p. starts tag.Landings ws p) (landing cs ws) 32 at
 
 -- what is left to read behind the landings, the links, the counts
 abbrev pub behind-landings : List ℕ → List ℕ → List Row → List Row → Result File SchemaFault
 behind-landings ws cs ls ms =
-  then (worded (end ws (1 + length cs + spans ls + spans ms))) (λ _. Ok (record { counts = cs; links = ls; landings = ms }))
+  then (worded (end ws (1 + length cs + sizes span ls + sizes span ms))) (λ _. Ok (record { counts = cs; links = ls; landings = ms }))
 
 abbrev pub behind-links : List ℕ → List ℕ → List Row → Result File SchemaFault
-behind-links ws cs ls = then (landings-of cs ws (1 + length cs + spans ls)) (behind-landings ws cs ls)
+behind-links ws cs ls = then (landings-of cs ws (1 + length cs + sizes span ls)) (behind-landings ws cs ls)
 
 abbrev pub behind-counts : List ℕ → List ℕ → Result File SchemaFault
 behind-counts ws cs = then (links-of cs ws) (behind-links ws cs)

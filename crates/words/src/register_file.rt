@@ -6,9 +6,9 @@ ghost use Prim.Native.Nat.{ℕ, _+_, _-_, _*_, _/_, _%_, _^_, _<_, _≤_};
 ghost use lib.ListN.{length, getD, set, take, drop};
 ghost use lib.Dec.{ltb, leb, eqb};
 ghost use Rattle.words.specs.declared.faults.SchemaFault.the-variants.{Words};
-ghost use Rattle.words.specs.Words.{word as wordOf, fields, starts as startsOf, many, giving, worded};
-ghost use Rattle.words.specs.Register.{count as countOf, counted as countedOf, link as linkOf, landing as landingOf, end as endOf, counts-of, links-of, landings-of, read};
-ghost use Rattle.words.specs.Outline.{sized, Counted, counts-got, behind, ended, outlined as outlinedOf, outline-of};
+ghost use Rattle.words.specs.Register.{count as countOf, counted as countedOf, link as linkOf, landing as landingOf, span, counts-of, links-of, landings-of, read};
+ghost use Rattle.words.specs.Items.{one-word, run, sized, behind, ended, outlined as outlinedOf};
+ghost use Rattle.words.specs.Outline.{Counted, counts-got, outline-of};
 ghost use Rattle.std.specs.Vec.{made};
 ghost use Rattle.words.specs.Layout.{Reads-layouts};
 ghost use Rattle.words.specs.Shown.{shown, told as toldOf};
@@ -36,7 +36,7 @@ fn counted(words: &[u32], at: usize, size: u32) -> Result<u32, SchemaFault>
 // A run of record words; tells the place behind them.
 fn records(words: &[u32], at: usize, n: u32, size: u32) -> Result<usize, SchemaFault>
     requires { ⌜ at ≤ length (now words) ⌝ }
-    ensures { λ r. ⌜ r ≡ giving (at + n) (many (countedOf size (now (words .entry))) n at) ⌝ }
+    ensures { λ r. ⌜ r ≡ ended one-word at (run (countedOf size (now (words .entry))) n at) ⌝ }
 {
     let mut next = at;
     for _k in 0..n {
@@ -49,7 +49,7 @@ fn records(words: &[u32], at: usize, n: u32, size: u32) -> Result<usize, SchemaF
 // A run of counts behind the first word.
 fn counts(words: &[u32], n: u32) -> Result<usize, SchemaFault>
     requires { ⌜ 0 < length (now words) ⌝ }
-    ensures { λ r. ⌜ r ≡ giving (1 + n) (many (countOf (now (words .entry))) n 1) ⌝ }
+    ensures { λ r. ⌜ r ≡ ended one-word 1 (run (countOf (now (words .entry))) n 1) ⌝ }
 {
     let mut next = 1;
     for _k in 0..n {
@@ -82,7 +82,7 @@ fn count_at(words: &[u32], kinds: u32, kind: u32) -> u32
 // A link and its records, where there is room for one; tells the place behind them.
 fn link(words: &[u32], kinds: u32, room: usize, at: usize) -> Result<usize, SchemaFault>
     requires { ⌜ Counted (now words) kinds ⌝ }
-    ensures { λ r. ⌜ r ≡ behind at (linkOf room (counts-got (now (words .entry))) (now (words .entry)) at) ⌝ }
+    ensures { λ r. ⌜ r ≡ behind span at (linkOf (counts-got (now (words .entry))) (now (words .entry)) room at) ⌝ }
 {
     let v = word(words, at, Tag::RegisterLink)?;
     if room == 0 {
@@ -99,7 +99,7 @@ fn link(words: &[u32], kinds: u32, room: usize, at: usize) -> Result<usize, Sche
 // The landings of a source kind, where there is room for one; tells the place behind them.
 fn landing(words: &[u32], kinds: u32, room: usize, at: usize) -> Result<usize, SchemaFault>
     requires { ⌜ Counted (now words) kinds ⌝ ∗ ⌜ room ≤ 32 ⌝ }
-    ensures { λ r. ⌜ r ≡ behind at (landingOf room (counts-got (now (words .entry))) (now (words .entry)) at) ⌝ }
+    ensures { λ r. ⌜ r ≡ behind span at (landingOf (counts-got (now (words .entry))) (now (words .entry)) room at) ⌝ }
 {
     let v = word(words, at, Tag::Landings)?;
     if room == 0 {
@@ -123,7 +123,7 @@ pub struct LinkPlaces {
 fn links(words: &[u32], kinds: u32) -> Result<LinkPlaces, SchemaFault>
     requires { ⌜ Counted (now words) kinds ⌝ }
     ensures few { λ r. ⌜ made r (λ l. l .count ≤ 64) ⌝ }
-    ensures told { λ r. ⌜ shown r ≡ outlinedOf (1 + kinds) (links-of (counts-got (now (words .entry))) (now (words .entry))) ⌝ }
+    ensures told { λ r. ⌜ shown r ≡ outlinedOf span (1 + kinds) (links-of (counts-got (now (words .entry))) (now (words .entry))) ⌝ }
 {
     let mut at = 1 + kinds as usize;
     let mut count = 0;
@@ -139,7 +139,7 @@ fn links(words: &[u32], kinds: u32) -> Result<LinkPlaces, SchemaFault>
 
 fn landings(words: &[u32], kinds: u32, start: usize) -> Result<usize, SchemaFault>
     requires { ⌜ Counted (now words) kinds ⌝ }
-    ensures { λ r. ⌜ r ≡ ended start (landings-of (counts-got (now (words .entry))) (now (words .entry)) start) ⌝ }
+    ensures { λ r. ⌜ r ≡ ended span start (landings-of (counts-got (now (words .entry))) (now (words .entry)) start) ⌝ }
 {
     let mut at = start;
     let mut count = 0;

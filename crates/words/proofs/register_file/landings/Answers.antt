@@ -4,7 +4,7 @@ use native.Mathlib.Omega.{arith}
 use Rattle.std.proofs.shelf.Results.{err-from-errBy}
 use Rattle.words.specs.Outline.{counts-got}
 use Rattle.words.proofs.Parts.{landing-room}
-use Rattle.words.proofs.Rows.{behind-ok, ended-turn, ended-stop, ended-done}
+use Rattle.words.proofs.Items.{behind-ok, ended-turn, ended-stop, ended-done}
 use Rattle.words.proofs.register_file.landings.Needs as need
 
 pub returns-in-Break-at : need.returns-in-Break-at
@@ -16,8 +16,8 @@ returns-in-Break-at c =
 pub loop-at-again : need.loop-at-again
 loop-at-again c =
     let e = sym (c .landing .ensures) ∙ c .in-Continue-at .was tt in
-    let x = behind-ok _ _ _ e in
-    let w : 0 < 32 - c .loop-at .count = landing-room (32 - c .loop-at .count) (counts-got (c .args .words .now)) (c .args .words .now) (c .loop-at .at) (x .0) (x .1) in
+    let x = behind-ok _ _ _ _ e in
+    let w : 0 < 32 - c .loop-at .count = landing-room (counts-got (c .args .words .now)) (c .args .words .now) (32 - c .loop-at .count) (c .loop-at .at) (x .0) (x .1) in
     (omega arith, ended-turn _ _ _ _ _ _ _ (sym (c .loop-at-test .ensures tt)) (omega arith) e ∙ c .loop-at .inv .1)
 
 pub returns : need.returns

@@ -4,9 +4,11 @@ use native.Mathlib.Omega.{arith}
 use lib.Dec.{lit≤}
 use lib.ListN.{length, length-set, take}
 use Rattle.std.proofs.shelf.Results.{err-from-errBy}
-use Rattle.words.specs.Outline.{prepended, counts-got}
+use Rattle.words.specs.Items.{prepended}
+use Rattle.words.specs.Outline.{counts-got}
 use Rattle.words.proofs.Parts.{link-room}
-use Rattle.words.proofs.Rows.{behind-ok, rows-turn, rows-stop, rows-done, links-start}
+use Rattle.words.proofs.Items.{behind-ok, items-turn, items-stop, items-done}
+use Rattle.words.proofs.Files.{links-start}
 use Rattle.words.proofs.register_file.links.Needs as need
 
 pub loop-places-holds : need.loop-places-holds
@@ -16,15 +18,15 @@ pub returns-in-Break-next : need.returns-in-Break-next
 returns-in-Break-next c =
     let p = err-from-errBy (c .from-residual .result) (c .from-residual .ensures .1) in
     let e = sym (c .link .ensures) ∙ c .in-Break-next .was tt in
-    rw (p .1, p .2) (record { few = tt; told = ap (prepended (take (c .loop-places .count) (c .loop-places .places))) (sym (rows-stop _ _ _ _ _ _ (sym (c .loop-places-test .ensures tt)) e)) ∙ c .loop-places .inv .2 })
+    rw (p .1, p .2) (record { few = tt; told = ap (prepended (take (c .loop-places .count) (c .loop-places .places))) (sym (items-stop _ _ _ _ _ _ (sym (c .loop-places-test .ensures tt)) e)) ∙ c .loop-places .inv .2 })
 
 pub loop-places-again : need.loop-places-again
 loop-places-again c =
     let e = sym (c .link .ensures) ∙ c .in-Continue-next .was tt in
-    let x = behind-ok _ _ _ e in
-    let w : 0 < 64 - c .loop-places .count = link-room (64 - c .loop-places .count) (counts-got (c .args .words .now)) (c .args .words .now) (c .loop-places .at) (x .0) (x .1) in
+    let x = behind-ok _ _ _ _ e in
+    let w : 0 < 64 - c .loop-places .count = link-room (counts-got (c .args .words .now)) (c .args .words .now) (64 - c .loop-places .count) (c .loop-places .at) (x .0) (x .1) in
     (omega arith, simp length-set (c .loop-places .inv .1),
-      rows-turn _ _ _ _ _ _ _ _ (sym (c .loop-places-test .ensures tt)) (omega arith) (omega arith) e ∙ c .loop-places .inv .2)
+      items-turn _ _ _ _ _ _ _ _ (sym (c .loop-places-test .ensures tt)) (omega arith) (omega arith) e ∙ c .loop-places .inv .2)
 
 pub returns : need.returns
-returns c = record { few = c .loop-places .inv .0; told = sym (rows-done _ _ _ _ _ _ (sym (c .loop-places-test .ensures tt))) ∙ c .loop-places .inv .2 }
+returns c = record { few = c .loop-places .inv .0; told = sym (items-done _ _ _ _ _ _ (sym (c .loop-places-test .ensures tt))) ∙ c .loop-places .inv .2 }
