@@ -1,10 +1,7 @@
 // The reader of register files.
 ghost use mathlib.Core.Path.{_≡_};
-ghost use mathlib.Core.Bool.{Bool, true, false, cond};
-ghost use mathlib.Core.List.{List, [], _∷_, _++_};
-ghost use Prim.Native.Nat.{ℕ, _+_, _-_, _*_, _/_, _%_, _^_, _<_, _≤_};
-ghost use lib.ListN.{length, getD, set, take, drop};
-ghost use lib.Dec.{ltb, leb, eqb};
+ghost use Prim.Native.Nat.{_+_, _-_, _/_, _%_, _<_, _≤_};
+ghost use lib.ListN.{length, getD};
 ghost use Rattle.words.specs.declared.faults.SchemaFault.the-variants.{Words};
 ghost use Rattle.words.specs.Register.{count as countOf, counted as countedOf, link as linkOf, landing as landingOf, span, counts-of, links-of, landings-of, read};
 ghost use Rattle.words.specs.Items.{one-word, run, sized, behind, ended, outlined as outlinedOf};
@@ -114,7 +111,7 @@ fn landing(words: &[u32], kinds: u32, room: usize, at: usize) -> Result<usize, S
 
 // Where the links stand, and the place behind the last.
 #[derive(Clone, Copy)]
-pub struct LinkPlaces {
+struct LinkPlaces {
     count: usize,
     places: [usize; 64],
     next: usize,
@@ -158,8 +155,8 @@ pub struct Outline {
     pub places: [usize; 64],
 }
 
-// Reads a register file through, and tells the first fault.
-pub fn outlined(words: &[u32]) -> Result<Outline, SchemaFault>
+// Reads a register file through, or tells the first fault.
+fn outlined(words: &[u32]) -> Result<Outline, SchemaFault>
     ensures few { λ r. ⌜ made r (λ o. o .links ≤ 64) ⌝ }
     ensures told { λ r. ⌜ toldOf r ≡ outline-of (read (now (words .entry))) ⌝ }
 {
@@ -172,9 +169,11 @@ pub fn outlined(words: &[u32]) -> Result<Outline, SchemaFault>
     Ok(Outline { kinds, links: count, places })
 }
 
-// A register file is accepted exactly if its words are the layout of a well-formed one.
-pub fn reads_layouts() -> u8
-    ensures { λ _. ⌜ Reads-layouts ⌝ }
+// Reads a register file. It accepts exactly the words that are the layout of a well-formed file.
+pub fn read_register(words: &[u32]) -> Result<Outline, SchemaFault>
+    ensures few { λ r. ⌜ made r (λ o. o .links ≤ 64) ⌝ }
+    ensures told { λ r. ⌜ toldOf r ≡ outline-of (read (now (words .entry))) ⌝ }
+    ensures laid { λ _. ⌜ Reads-layouts ⌝ }
 {
-    0
+    outlined(words)
 }
