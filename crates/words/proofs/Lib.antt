@@ -3,6 +3,7 @@ pub mod Single
 pub mod Runs
 pub mod Items
 pub mod Standing
+pub mod Laid
 pub mod Parts
 pub mod Rows
 pub mod Files

@@ -2,6 +2,7 @@ pub mod Tags
 pub mod Faults
 pub mod Words
 pub mod Items
+pub mod Numbered
 pub mod Register
 pub mod Layout
 pub mod Outline
