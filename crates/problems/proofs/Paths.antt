@@ -17,7 +17,7 @@ use Rattle.words.specs.Words.{word, worded, then, starts}
 use Rattle.words.proofs.Inverse.{err-ok, then-ok, worded-ok, if-ok, else-ok}
 use Rattle.words.proofs.Single.{Stood, word-told}
 use Rattle.words.specs.Items.{items, sized, got, places}
-use Rattle.problems.specs.Problem.{Link, no-link, one-word, link, links, step, path}
+use Rattle.problems.specs.Problem.{Link, no-link, one-word, link-of, link, links, step-of, step, path}
 use Rattle.problems.specs.Seen.{Linked, links-got, reached}
 use Rattle.words.proofs.Items.{items-at}
 use Rattle.words.specs.declared.tags.Tag.the-variants as tag
@@ -40,7 +40,7 @@ pub record Link-read (kinds : ℕ) (ws : List ℕ) (room at : ℕ) (l : Link) : 
 
 pub link-told : (kinds : ℕ) (ws : List ℕ) (room at : ℕ) (l : Link) → link kinds ws room at ≡ Ok l → Link-read kinds ws room at l
 link-told kinds ws room at l e =
-    let x = then-ok (worded (word tag.Link ws at)) (λ v. cond (eqb room 0) (Err (Words (Limit at))) (cond (ltb (v / 256) kinds && ltb (v % 256) kinds) (Ok (record { from = v / 256; to = v % 256 })) (Err (Unknown at)))) l e in
+    let x = then-ok (worded (word tag.Link ws at)) (link-of kinds room at) l e in
     let v = x .0 in
     let y = else-ok (eqb room 0) (cond (ltb (v / 256) kinds && ltb (v % 256) kinds) (Ok (record { from = v / 256; to = v % 256 })) (Err (Unknown at))) (Words (Limit at)) l (x .2) in
     let z = if-ok (ltb (v / 256) kinds && ltb (v % 256) kinds) (Ok (record { from = v / 256; to = v % 256 })) (Unknown at) l (y .1) in
@@ -110,7 +110,7 @@ module _ (ts : List Link) (ws : List ℕ) where
 
   pub step-told : (kind p g : ℕ) → step ts ws kind p ≡ Ok g → (word tag.Step ws p ≡ Ok g) × (g < length ts) × (getD ts g no-link .from ≡ kind)
   step-told kind p g e =
-      let x = then-ok (worded (word tag.Step ws p)) (λ g. cond (ltb g (length ts)) (cond (eqb (getD ts g no-link .from) kind) (Ok g) (Err (Unjoined p))) (Err (Unknown p))) g e in
+      let x = then-ok (worded (word tag.Step ws p)) (step-of ts kind p) g e in
       let y = if-ok (ltb (x .0) (length ts)) (cond (eqb (getD ts (x .0) no-link .from) kind) (Ok (x .0)) (Err (Unjoined p))) (Unknown p) g (x .2) in
       let z = if-ok (eqb (getD ts (x .0) no-link .from) kind) (Ok (x .0)) (Unjoined p) g (y .1) in
       let s : x .0 ≡ g = let q = z .1 in cc in

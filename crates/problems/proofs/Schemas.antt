@@ -16,7 +16,7 @@ use Rattle.words.specs.Words.{word, worded, then, starts}
 use Rattle.words.proofs.Inverse.{err-ok, then-ok, worded-ok, if-ok, else-ok}
 use Rattle.problems.specs.declared.Schema.{Schema}
 use Rattle.words.specs.Items.{sized}
-use Rattle.problems.specs.Problem.{Link, schema, link, links, one-word, whole-schema}
+use Rattle.problems.specs.Problem.{Link, schema-of, schema, link, links, one-word, whole-schema}
 use Rattle.problems.specs.Seen.{Linked}
 use Rattle.problems.specs.Shown.{seen}
 use Rattle.words.proofs.Items.{items-length}
@@ -30,7 +30,7 @@ pub record Kinds-read (side : ℕ) (ws : List ℕ) (at k : ℕ) : Type 0 where
 
 pub schema-told : (side : ℕ) (ws : List ℕ) (at k : ℕ) → schema side ws at ≡ Ok k → Kinds-read side ws at k
 schema-told side ws at k e =
-    let x = then-ok (worded (word tag.Schema ws at)) (λ v. cond (eqb (v / 256) side) (cond (ltb 0 (v % 256) && leb (v % 256) 32) (Ok (v % 256)) (Err (Words (Limit at)))) (Err (Words (Wrong at)))) k e in
+    let x = then-ok (worded (word tag.Schema ws at)) (schema-of side at) k e in
     let v = x .0 in
     let y = if-ok (eqb (v / 256) side) (cond (ltb 0 (v % 256) && leb (v % 256) 32) (Ok (v % 256)) (Err (Words (Limit at)))) (Words (Wrong at)) k (x .2) in
     let z = if-ok (ltb 0 (v % 256) && leb (v % 256) 32) (Ok (v % 256)) (Words (Limit at)) k (y .1) in

@@ -8,9 +8,8 @@ ghost use Rattle.words.specs.Items.{sized, behind, outlined, ended};
 ghost use Rattle.problems.specs.Problem.{no-link, one-word, schema as schemaOf, link as linkOf, links as linksOf, step as stepOf, path as pathOf, rule as ruleOf, rule-size, rules as rulesOf, kind-mapped, kind-maps, link-mapped, link-maps, path-size, whole-schema, behind-schemas, read as readOf};
 ghost use Rattle.problems.specs.Seen.{Linked, links-got, reached, Mapped, kinds-got};
 ghost use Rattle.std.specs.declared.result.Result.the-variants.{Ok};
-ghost use Rattle.problems.specs.Places.{Rules-stand, Reads-paths};
-ghost use Rattle.problems.specs.Layout.{Read-layouts};
-ghost use Rattle.problems.specs.Tokens.{token-shown, rule-here, rule-shown, token-of};
+ghost use Rattle.problems.specs.Layout.{Reads-layouts, Reads-once};
+ghost use Rattle.problems.specs.Accepts.{Laid};
 ghost use Rattle.problems.specs.Shown.{shown, shown-maps, seen, told as toldOf, outline-from, outline-of};
 use words::faults::SchemaFault;
 use words::faults::SchemaFromWord;
@@ -22,7 +21,7 @@ use words::reading::word;
 use words::tags::Tag;
 
 // The kinds of the schema of a side.
-pub fn schema_kinds(words: &[u32], side: u32, at: usize) -> Result<u32, SchemaFault>
+fn schema_kinds(words: &[u32], side: u32, at: usize) -> Result<u32, SchemaFault>
     ensures { λ r. ⌜ r ≡ schemaOf side (now (words .entry)) at ⌝ }
 {
     let v = word(words, at, Tag::Schema)?;
@@ -36,7 +35,7 @@ pub fn schema_kinds(words: &[u32], side: u32, at: usize) -> Result<u32, SchemaFa
 }
 
 // A link, where there is room for one; tells the place behind it.
-pub fn link(words: &[u32], kinds: u32, room: usize, at: usize) -> Result<usize, SchemaFault>
+fn link(words: &[u32], kinds: u32, room: usize, at: usize) -> Result<usize, SchemaFault>
     ensures { λ r. ⌜ r ≡ behind one-word at (linkOf kinds (now (words .entry)) room at) ⌝ }
 {
     let v = word(words, at, Tag::Link)?;
@@ -50,7 +49,7 @@ pub fn link(words: &[u32], kinds: u32, room: usize, at: usize) -> Result<usize, 
 }
 
 // The links of a schema; tells how many.
-pub fn links(words: &[u32], kinds: u32, start: usize) -> Result<usize, SchemaFault>
+fn links(words: &[u32], kinds: u32, start: usize) -> Result<usize, SchemaFault>
     ensures { λ r. ⌜ r ≡ sized (linksOf kinds (now (words .entry)) start) ⌝ }
 {
     let mut at = start;
@@ -276,8 +275,8 @@ fn rest(words: &[u32], source: Schema, target: Schema, start: usize) -> Result<F
     Ok(Found { source, target, rules: count, rule_places, maps, map_places })
 }
 
-// Reads a problem file through, and tells the first fault.
-pub fn read(words: &[u32]) -> Result<Found, SchemaFault>
+// The parts of a problem file, one after another.
+fn read(words: &[u32]) -> Result<Found, SchemaFault>
     ensures { λ r. ⌜ toldOf r ≡ outline-of (readOf (now (words .entry))) ⌝ }
 {
     let source = schema_at(words, 0, 0)?;
@@ -285,57 +284,12 @@ pub fn read(words: &[u32]) -> Result<Found, SchemaFault>
     rest(words, source, target, target.place + target.links)
 }
 
-// At the place of each rule of an accepted problem stand its word and its two paths.
-pub fn rules_stand() -> u8
-    ensures { λ _. ⌜ Rules-stand ⌝ }
+// Reads a problem file through, and tells the first fault.
+// It is accepted exactly if its words are the layout of a well-formed problem.
+pub fn read_problem(words: &[u32]) -> Result<Found, SchemaFault>
+    ensures told { λ r. ⌜ toldOf r ≡ outline-of (readOf (now (words .entry))) ⌝ }
+    ensures laid { λ r. ⌜ Laid (now (words .entry)) r ⌝ }
+    ensures layouts { λ _. ⌜ Reads-layouts ⌝ ∗ ⌜ Reads-once ⌝ }
 {
-    0
-}
-
-// A rule: its two paths are parts of the words read.
-#[derive(Clone, Copy)]
-pub struct RuleToken<'a> {
-    first: u32,
-    left: &'a [u32],
-    right: &'a [u32],
-    place: usize,
-}
-
-// The rule whose word stands at a place and has those fields.
-fn rule_token<'a>(words: &'a [u32], place: usize, v: u32) -> RuleToken<'a>
-    requires { ⌜ place + 1 + v / 256 % 256 + v % 256 ≤ length (now words) ⌝ }
-    ensures { λ r. ⌜ token-shown r ≡ rule-here (now (words .entry)) place v ⌝ }
-{
-    let start = place + 1;
-    let middle = start + (v / 256 % 256) as usize;
-    let left = &words[start..middle];
-    let right = &words[middle..middle + (v % 256) as usize];
-    RuleToken { first: v / 65536, left, right, place }
-}
-
-// The rule of that number.
-pub fn rule_at<'a>(words: &'a [u32], found: Found, i: usize) -> Option<RuleToken<'a>>
-    requires { ⌜ toldOf (Ok found) ≡ outline-of (readOf (now words)) ⌝ }
-    ensures { λ r. ⌜ rule-shown r ≡ token-of (readOf (now (words .entry))) i ⌝ }
-{
-    if i >= found.rules || i >= 128 {
-        return None;
-    }
-    let place = found.rule_places[i];
-    let v = fields_at(words, place);
-    Some(rule_token(words, place, v))
-}
-
-// A path is read exactly if its steps stand there and it walks.
-pub fn reads_paths() -> u8
-    ensures { λ _. ⌜ Reads-paths ⌝ }
-{
-    0
-}
-
-// An accepted problem file is the layout of a well-formed problem.
-pub fn read_layouts() -> u8
-    ensures { λ _. ⌜ Read-layouts ⌝ }
-{
-    0
+    read(words)
 }

@@ -5,6 +5,7 @@ use mathlib.Core.List.{List, [], _∷_, _++_}
 use Prim.Native.Nat.{ℕ, zero, suc, _+_, _-_, _<_, _≤_}
 use native.Mathlib.Omega.{arith}
 use native.Mathlib.Nat.{add-zero}
+use lib.Dec.{ltb}
 use lib.ListN.{length, length-append}
 use Rattle.std.proofs.shelf.Ways.{tells}
 use Rattle.std.specs.shelf.Lists.{All, joined}
@@ -19,6 +20,12 @@ use Rattle.words.proofs.Items.{items-zero, items-split, items-none}
 use Rattle.words.proofs.Single.{Stood, word-read}
 use Rattle.words.proofs.Standing.{Stands, none, join, front, back}
 use Rattle.words.specs.declared.tags.Tag.the-variants as tag
+
+pub ok-same : {A E : Type 0} {x y : A} → _≡_ {A = Result A E} (Ok x) (Ok y) → y ≡ x
+ok-same {A} {E} {x} {y} e = cc
+
+pub more-some : (m : ℕ) → 0 < m → ltb 0 m ≡ true
+more-some m h = grind (arith, tells)
 
 -- where no item's words tell its number
 module _ {X : Type 0} where
