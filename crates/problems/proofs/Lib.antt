@@ -7,3 +7,4 @@ pub mod Laying
 pub mod Problems
 pub mod Layouts
 pub mod Accepting
+pub mod Tokening

@@ -3,3 +3,4 @@ pub mod Seen
 pub mod Shown
 pub mod Layout
 pub mod Accepts
+pub mod Tokens

@@ -10,6 +10,7 @@ ghost use Rattle.problems.specs.Seen.{Linked, links-got, reached, Mapped, kind
 ghost use Rattle.std.specs.declared.result.Result.the-variants.{Ok};
 ghost use Rattle.problems.specs.Layout.{Reads-layouts, Reads-once};
 ghost use Rattle.problems.specs.Accepts.{Laid};
+ghost use Rattle.problems.specs.Tokens.{shown-token, token-in, rule-token, map-token};
 ghost use Rattle.problems.specs.Shown.{shown, shown-maps, seen, told as toldOf, outline-from, outline-of};
 use words::faults::SchemaFault;
 use words::faults::SchemaFromWord;
@@ -19,6 +20,8 @@ use words::reading::fields_at;
 use words::reading::starts;
 use words::reading::word;
 use words::tags::Tag;
+use words::tokens::Token;
+use words::tokens::token_at;
 
 // The kinds of the schema of a side.
 fn schema_kinds(words: &[u32], side: u32, at: usize) -> Result<u32, SchemaFault>
@@ -64,9 +67,9 @@ fn links(words: &[u32], kinds: u32, start: usize) -> Result<usize, SchemaFault>
 // A schema that was read: its kinds, how many links it has, and the place of the first.
 #[derive(Clone, Copy)]
 pub struct Schema {
-    kinds: u32,
-    links: usize,
-    place: usize,
+    pub kinds: u32,
+    pub links: usize,
+    pub place: usize,
 }
 
 // A step leaves the kind reached; tells its link.
@@ -135,7 +138,7 @@ fn rule(words: &[u32], schema: Schema, room: usize, at: usize) -> Result<usize, 
 
 // Where the rules stand, and the place behind the last.
 #[derive(Clone, Copy)]
-pub struct RulePlaces {
+struct RulePlaces {
     count: usize,
     places: [usize; 128],
     next: usize,
@@ -217,7 +220,7 @@ fn link_map(words: &[u32], source: Schema, target: Schema, maps: usize, left: us
 
 // Where the link maps stand, and the place behind the last.
 #[derive(Clone, Copy)]
-pub struct MapPlaces {
+struct MapPlaces {
     places: [usize; 64],
     next: usize,
 }
@@ -249,12 +252,12 @@ fn schema_at(words: &[u32], side: u32, at: usize) -> Result<Schema, SchemaFault>
 // A problem file that was read through: its schemas, and where its rules and maps stand.
 #[derive(Clone, Copy)]
 pub struct Found {
-    source: Schema,
-    target: Schema,
-    rules: usize,
-    rule_places: [usize; 128],
-    maps: usize,
-    map_places: [usize; 64],
+    pub source: Schema,
+    pub target: Schema,
+    pub rules: usize,
+    pub rule_places: [usize; 128],
+    pub maps: usize,
+    pub map_places: [usize; 64],
 }
 
 // What stands behind the schemas.
@@ -292,4 +295,33 @@ pub fn read_problem(words: &[u32]) -> Result<Found, SchemaFault>
     ensures layouts { λ _. ⌜ Reads-layouts ⌝ ∗ ⌜ Reads-once ⌝ }
 {
     read(words)
+}
+
+// The token at the i-th of the first n places, unless it is refused.
+fn token_in<'a>(words: &'a [u32], places: &[usize], n: usize, i: usize) -> Option<Token<'a>>
+    ensures { λ r. ⌜ shown-token r ≡ token-in (now (words .entry)) (take n (now (places .entry))) i ⌝ }
+{
+    if i >= n || i >= places.len() {
+        return None;
+    }
+    match token_at(words, places[i]) {
+        Ok(token) => Some(token),
+        Err(_) => None,
+    }
+}
+
+// The token of the rule of that number: its first kind, its two paths, its place.
+pub fn rule_at<'a>(words: &'a [u32], found: &Found, i: usize) -> Option<Token<'a>>
+    ensures stands { λ r. ⌜ shown-token r ≡ token-in (now (words .entry)) (take (now (found .entry) .rules) (now (found .entry) .«rule_places»)) i ⌝ }
+    ensures known { λ r. ⌜ (toldOf (Ok (now (found .entry))) ≡ outline-of (readOf (now (words .entry))) → shown-token r ≡ rule-token (readOf (now (words .entry))) i) ⌝ }
+{
+    token_in(words, &found.rule_places, found.rules, i)
+}
+
+// The token of the link map of that source link: its path, its place.
+pub fn link_map_at<'a>(words: &'a [u32], found: &Found, i: usize) -> Option<Token<'a>>
+    ensures stands { λ r. ⌜ shown-token r ≡ token-in (now (words .entry)) (take (now (found .entry) .source .links) (now (found .entry) .«map_places»)) i ⌝ }
+    ensures known { λ r. ⌜ (toldOf (Ok (now (found .entry))) ≡ outline-of (readOf (now (words .entry))) → shown-token r ≡ map-token (readOf (now (words .entry))) i) ⌝ }
+{
+    token_in(words, &found.map_places, found.source.links, i)
 }

@@ -8,3 +8,4 @@ pub mod Parts
 pub mod Rows
 pub mod Files
 pub mod Layouts
+pub mod Tokening

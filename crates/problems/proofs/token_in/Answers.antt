@@ -1,0 +1,19 @@
+use mathlib.Core.Logic.{_⊎_, inl, inr, ⊎-elim}
+use Prim.Native.Nat.{_<_, _≤_}
+use native.Mathlib.Omega.{arith}
+use lib.ListN.{length}
+use Rattle.std.specs.declared.result.Result.the-variants.{Err}
+use Rattle.problems.proofs.Tokening.{token-found, token-none}
+use Rattle.problems.proofs.token_in.Needs as need
+
+pub returns-then-i-n : need.returns-then-i-n
+returns-then-i-n c =
+    token-none (c .args .words .now) (c .args .places .now) (c .args .n) (c .args .i) (⊎-elim inl (λ h. inr (h .1)) (c .then-i-n .either))
+
+pub returns-in-Ok : need.returns-in-Ok
+returns-in-Ok c =
+    token-found (c .args .words .now) (c .args .places .now) (c .args .n) (c .args .i) _ (c .if-i-n .left) (omega arith) (c .in-Ok .ensures tt)
+
+pub returns-in-Err : need.returns-in-Err
+returns-in-Err c =
+    token-found (c .args .words .now) (c .args .places .now) (c .args .n) (c .args .i) _ (c .if-i-n .left) (omega arith) (c .in-Err .ensures tt)
