@@ -23,6 +23,12 @@ use words::tags::Tag;
 use words::tokens::Token;
 use words::tokens::token_at;
 
+// How many kinds and links a schema may have, rules a problem, and steps a path.
+const KINDS: u32 = 32;
+const LINKS: usize = 64;
+const RULES: usize = 128;
+const STEPS: u32 = 64;
+
 // The kinds of the schema of a side.
 fn schema_kinds(words: &[u32], side: u32, at: usize) -> Result<u32, SchemaFault>
     ensures { λ r. ⌜ r ≡ schemaOf side (now (words .entry)) at ⌝ }
@@ -31,7 +37,7 @@ fn schema_kinds(words: &[u32], side: u32, at: usize) -> Result<u32, SchemaFault>
     if v / 256 != side {
         return Err(SchemaFault::Words(WordFault::Wrong(at)));
     }
-    if v % 256 == 0 || v % 256 > 32 {
+    if v % 256 == 0 || v % 256 > KINDS {
         return Err(SchemaFault::Words(WordFault::Limit(at)));
     }
     Ok(v % 256)
@@ -58,7 +64,7 @@ fn links(words: &[u32], kinds: u32, start: usize) -> Result<usize, SchemaFault>
     let mut at = start;
     let mut count = 0;
     while starts(words, at, Tag::Link) {
-        at = link(words, kinds, 64 - count, at)?;
+        at = link(words, kinds, LINKS - count, at)?;
         count += 1;
     }
     Ok(count)
@@ -121,7 +127,7 @@ fn rule(words: &[u32], schema: Schema, room: usize, at: usize) -> Result<usize, 
     let v = word(words, at, Tag::Rule)?;
     let left = v / 256 % 256;
     let right = v % 256;
-    if room == 0 || left > 64 || right > 64 {
+    if room == 0 || left > STEPS || right > STEPS {
         return Err(SchemaFault::Words(WordFault::Limit(at)));
     }
     let first = v / 65536;
@@ -140,7 +146,7 @@ fn rule(words: &[u32], schema: Schema, room: usize, at: usize) -> Result<usize, 
 #[derive(Clone, Copy)]
 struct RulePlaces {
     count: usize,
-    places: [usize; 128],
+    places: [usize; RULES],
     next: usize,
 }
 
@@ -151,9 +157,9 @@ fn rules(words: &[u32], schema: Schema, start: usize) -> Result<RulePlaces, Sche
 {
     let mut at = start;
     let mut count = 0;
-    let mut places = [0; 128];
+    let mut places = [0; RULES];
     while starts(words, at, Tag::Rule) {
-        let next = rule(words, schema, 128 - count, at)?;
+        let next = rule(words, schema, RULES - count, at)?;
         places[count] = at;
         count += 1;
         at = next;
@@ -201,7 +207,7 @@ fn link_map(words: &[u32], source: Schema, target: Schema, maps: usize, left: us
 {
     let v = word(words, at, Tag::LinkMap)?;
     let n = v % 256;
-    if n > 64 {
+    if n > STEPS {
         return Err(SchemaFault::Words(WordFault::Limit(at)));
     }
     let link = v / 256;
@@ -221,7 +227,7 @@ fn link_map(words: &[u32], source: Schema, target: Schema, maps: usize, left: us
 // Where the link maps stand, and the place behind the last.
 #[derive(Clone, Copy)]
 struct MapPlaces {
-    places: [usize; 64],
+    places: [usize; LINKS],
     next: usize,
 }
 
@@ -231,7 +237,7 @@ fn link_maps(words: &[u32], source: Schema, target: Schema, maps: usize, start: 
     ensures { λ r. ⌜ shown-maps (source .links) r ≡ outlined path-size start (link-maps (links-got (source .kinds) (now (words .entry)) (source .place)) (kinds-got (source .kinds) (target .kinds) (now (words .entry)) maps) (links-got (target .kinds) (now (words .entry)) (target .place)) (now (words .entry)) start) ⌝ }
 {
     let mut at = start;
-    let mut places = [0; 64];
+    let mut places = [0; LINKS];
     for i in 0..source.links {
         let next = link_map(words, source, target, maps, source.links - i, at)?;
         places[i] = at;
@@ -255,9 +261,9 @@ pub struct Found {
     pub source: Schema,
     pub target: Schema,
     pub rules: usize,
-    pub rule_places: [usize; 128],
+    pub rule_places: [usize; RULES],
     pub maps: usize,
-    pub map_places: [usize; 64],
+    pub map_places: [usize; LINKS],
 }
 
 // What stands behind the schemas.
