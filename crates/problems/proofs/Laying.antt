@@ -1,14 +1,13 @@
 -- Each item stands in the words as it is laid out, and is read where it stands.
-use mathlib.Core.Path.{_≡_, refl, sym, ap, subst, _∙_}
-use mathlib.Core.Bool.{Bool, true, false, cond, _&&_, _||_}
+use mathlib.Core.Path.{_≡_, refl, ap, subst, _∙_}
+use mathlib.Core.Bool.{Bool, true, false, cond, _||_}
 use mathlib.Core.List.{List, [], _∷_, _++_, map}
-use Prim.Native.Nat.{ℕ, zero, suc, _+_, _-_, _*_, _/_, _%_, _<_, _≤_}
+use Prim.Native.Nat.{ℕ, _+_, _*_, _/_, _%_, _<_, _≤_}
 use native.Mathlib.Omega.{arith}
 use lib.Dec.{ltb, eqb}
-use lib.ListN.{length, getD}
+use lib.ListN.{length}
 use Rattle.std.proofs.shelf.Lists.{length-map}
 use Rattle.std.proofs.shelf.Ways.{tells}
-use Rattle.std.specs.declared.result.Result.{Result}
 use Rattle.std.specs.declared.result.Result.the-variants.{Ok, Err}
 use Rattle.words.specs.declared.faults.SchemaFault.the-variants.{Words, Unknown, Unjoined}
 use Rattle.words.specs.declared.faults.WordFault.the-variants.{Limit}
@@ -20,7 +19,7 @@ use Rattle.words.proofs.Standing.{Stands, join, front, back, stood-stands, stan
 use Rattle.words.proofs.Laid.{ok-same, more-some}
 use Rattle.problems.specs.Problem.{Link, Rule, link-of, link, path, meeting, paths, rule-of, rule, rule-size, path-size, kind-of, kind-mapped, begins, stops, arriving, map-of, link-mapped}
 use Rattle.problems.specs.Layout.{link-words, rule-words, kind-words, map-words, Walks, Good-link, Good-rule, Good-map}
-use Rattle.problems.proofs.Paths.{both, link-told, path-length}
+use Rattle.problems.proofs.Paths.{link-told, path-length}
 use Rattle.problems.proofs.Ruling.{rule-is}
 use Rattle.problems.proofs.Mapping.{kind-told, map-is-path}
 use Rattle.problems.proofs.Walking.{path-stands, path-walks, path-made}

@@ -1,8 +1,8 @@
 -- A problem file is accepted exactly if it is the layout of a well-formed problem.
 use mathlib.Core.Path.{_≡_, refl, sym, ap, _∙_}
-use mathlib.Core.Bool.{Bool, true, false, cond, _&&_}
+use mathlib.Core.Bool.{Bool, false}
 use mathlib.Core.List.{List, [], _∷_, _++_, map}
-use Prim.Native.Nat.{ℕ, zero, suc, _+_, _-_, _*_, _/_, _%_, _<_, _≤_}
+use Prim.Native.Nat.{ℕ, _+_, _-_, _*_, _/_, _%_, _<_, _≤_}
 use native.Mathlib.Omega.{arith}
 use native.Mathlib.Nat.{zero-add}
 use lib.Dec.{ltb}
@@ -10,12 +10,9 @@ use lib.ListN.{length, length-append}
 use Rattle.std.proofs.shelf.Lists.{length-map}
 use Rattle.std.proofs.shelf.Ways.{tells}
 use Rattle.std.specs.shelf.Lists.{All, joined}
-use Rattle.std.specs.declared.result.Result.{Result}
-use Rattle.std.specs.declared.result.Result.the-variants.{Ok, Err}
-use Rattle.words.specs.declared.faults.SchemaFault.{SchemaFault}
+use Rattle.std.specs.declared.result.Result.the-variants.{Ok}
 use Rattle.words.specs.declared.tags.Tag.{Tag}
 use Rattle.words.specs.Words.{worded, then, starts}
-use Rattle.words.specs.Register.{end}
 use Rattle.words.specs.Tags.{tagged, number}
 use Rattle.words.specs.Items.{sizes}
 use Rattle.words.specs.Numbered.{numbered, Each}

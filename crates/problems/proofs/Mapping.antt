@@ -1,21 +1,18 @@
 -- Kind maps and link maps, as the code reads them.
-use mathlib.Core.Path.{_≡_, refl, sym, ap, _∙_}
-use mathlib.Core.Bool.{Bool, true, false, cond, _&&_}
-use mathlib.Core.List.{List, [], _∷_}
-use Prim.Native.Nat.{ℕ, zero, suc, _+_, _-_, _*_, _/_, _%_, _<_, _≤_}
+use mathlib.Core.Path.{_≡_, sym, ap, _∙_}
+use mathlib.Core.Bool.{true, cond, _&&_}
+use mathlib.Core.List.{List}
+use Prim.Native.Nat.{ℕ, _+_, _-_, _/_, _%_, _<_, _≤_}
 use native.Mathlib.Omega.{arith}
 use lib.Dec.{ltb, eqb}
 use lib.ListN.{length, getD}
 use Rattle.std.proofs.shelf.Ways.{tells}
-use Rattle.std.specs.declared.result.Result.{Result}
 use Rattle.std.specs.declared.result.Result.the-variants.{Ok, Err}
-use Rattle.words.specs.declared.faults.WordFault.the-variants.{Missing, Wrong, Limit}
-use Rattle.words.specs.declared.faults.SchemaFault.{SchemaFault}
-use Rattle.words.specs.declared.faults.SchemaFault.the-variants.{Words, Unknown, Unjoined}
+use Rattle.words.specs.declared.faults.SchemaFault.the-variants.{Unknown, Unjoined}
 use Rattle.words.specs.Words.{word, worded, then}
-use Rattle.words.proofs.Inverse.{err-ok, then-ok, worded-ok, if-ok, else-ok}
-use Rattle.words.proofs.Single.{Stood, word-told}
-use Rattle.words.specs.Items.{items, behind, places, got}
+use Rattle.words.proofs.Inverse.{then-ok, worded-ok, if-ok}
+use Rattle.words.proofs.Single.{word-told}
+use Rattle.words.specs.Items.{behind}
 use Rattle.problems.specs.Problem.{Link, one-word, path, kind-of, kind-mapped, kind-maps, begins, stops, arriving, map-of, link-mapped, path-size}
 use Rattle.problems.specs.Seen.{reached, Mapped, kinds-got}
 use Rattle.words.proofs.Items.{items-at, items-full, more-one}

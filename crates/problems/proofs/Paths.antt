@@ -9,14 +9,13 @@ use lib.ListN.{length, getD}
 use Rattle.std.proofs.shelf.Ways.{tells}
 use Rattle.std.specs.declared.result.Result.{Result}
 use Rattle.std.specs.declared.result.Result.the-variants.{Ok, Err}
-use Rattle.words.specs.declared.faults.WordFault.{WordFault}
-use Rattle.words.specs.declared.faults.WordFault.the-variants.{Missing, Wrong, Limit}
+use Rattle.words.specs.declared.faults.WordFault.the-variants.{Limit}
 use Rattle.words.specs.declared.faults.SchemaFault.{SchemaFault}
 use Rattle.words.specs.declared.faults.SchemaFault.the-variants.{Words, Unknown, Unjoined}
 use Rattle.words.specs.Words.{word, worded, then, starts}
 use Rattle.words.proofs.Inverse.{err-ok, then-ok, worded-ok, if-ok, else-ok}
-use Rattle.words.proofs.Single.{Stood, word-told}
-use Rattle.words.specs.Items.{items, sized, got, places}
+use Rattle.words.proofs.Single.{word-told}
+use Rattle.words.specs.Items.{sized, got, places}
 use Rattle.problems.specs.Problem.{Link, no-link, one-word, link-of, link, links, step-of, step, path}
 use Rattle.problems.specs.Seen.{Linked, links-got, reached}
 use Rattle.words.proofs.Items.{items-at}

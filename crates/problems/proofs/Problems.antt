@@ -1,13 +1,12 @@
 -- What an accepted problem file says of its parts.
-use mathlib.Core.Path.{_≡_, refl, sym, ap, _∙_}
-use mathlib.Core.List.{List, [], _∷_}
-use Prim.Native.Nat.{ℕ, _+_, _-_, _<_, _≤_}
+use mathlib.Core.Path.{_≡_, ap, _∙_}
+use mathlib.Core.List.{List}
+use Prim.Native.Nat.{ℕ, _+_}
 use native.Mathlib.Omega.{arith}
-use lib.ListN.{length, getD}
+use lib.ListN.{length}
 use Rattle.std.proofs.shelf.Ways.{tells}
-use Rattle.std.specs.declared.result.Result.{Result}
-use Rattle.std.specs.declared.result.Result.the-variants.{Ok, Err}
-use Rattle.words.specs.Words.{worded, then, starts}
+use Rattle.std.specs.declared.result.Result.the-variants.{Ok}
+use Rattle.words.specs.Words.{worded, then}
 use Rattle.words.specs.Register.{end}
 use Rattle.words.proofs.Inverse.{then-ok, worded-ok}
 use Rattle.words.specs.Items.{sizes}

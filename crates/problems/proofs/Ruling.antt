@@ -1,19 +1,17 @@
 -- Rules, as the code reads them.
-use mathlib.Core.Path.{_≡_, refl, sym, ap, _∙_}
-use mathlib.Core.Bool.{Bool, true, false, cond, _&&_, _||_}
-use mathlib.Core.List.{List, [], _∷_}
-use Prim.Native.Nat.{ℕ, zero, suc, _+_, _-_, _*_, _/_, _%_, _<_, _≤_}
+use mathlib.Core.Path.{_≡_, sym, ap, _∙_}
+use mathlib.Core.Bool.{true, cond}
+use mathlib.Core.List.{List}
+use Prim.Native.Nat.{ℕ, zero, suc, _+_, _/_, _%_, _<_, _≤_}
 use native.Mathlib.Omega.{arith}
-use lib.Dec.{ltb, eqb}
-use lib.ListN.{length, getD}
+use lib.Dec.{eqb}
+use lib.ListN.{length}
 use Rattle.std.proofs.shelf.Ways.{tells}
-use Rattle.std.specs.declared.result.Result.{Result}
 use Rattle.std.specs.declared.result.Result.the-variants.{Ok, Err}
-use Rattle.words.specs.declared.faults.WordFault.the-variants.{Missing, Wrong, Limit}
-use Rattle.words.specs.declared.faults.SchemaFault.{SchemaFault}
-use Rattle.words.specs.declared.faults.SchemaFault.the-variants.{Words, Unknown, Unjoined}
-use Rattle.words.specs.Words.{word, worded, then, starts}
-use Rattle.words.proofs.Inverse.{err-ok, then-ok, worded-ok, if-ok, else-ok}
+use Rattle.words.specs.declared.faults.WordFault.the-variants.{Limit}
+use Rattle.words.specs.declared.faults.SchemaFault.the-variants.{Words, Unjoined}
+use Rattle.words.specs.Words.{word, worded, then}
+use Rattle.words.proofs.Inverse.{err-ok, then-ok}
 use Rattle.words.specs.Items.{behind}
 use Rattle.problems.specs.Problem.{Link, Rule, path, meeting, paths, rule-of, rule, rule-size}
 use Rattle.problems.specs.Seen.{reached}

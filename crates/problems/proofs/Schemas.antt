@@ -1,7 +1,7 @@
 -- A schema that was read.
-use mathlib.Core.Path.{_≡_, refl, sym, ap, subst, _∙_}
-use mathlib.Core.Bool.{Bool, true, false, cond, _&&_}
-use mathlib.Core.List.{List, [], _∷_}
+use mathlib.Core.Path.{_≡_, refl, sym, ap, _∙_}
+use mathlib.Core.Bool.{cond, _&&_}
+use mathlib.Core.List.{List}
 use Prim.Native.Nat.{ℕ, _+_, _*_, _/_, _%_, _<_, _≤_}
 use native.Mathlib.Omega.{arith}
 use lib.Dec.{ltb, leb, eqb}
@@ -9,11 +9,11 @@ use lib.ListN.{length}
 use Rattle.std.proofs.shelf.Ways.{tells}
 use Rattle.std.specs.declared.result.Result.{Result}
 use Rattle.std.specs.declared.result.Result.the-variants.{Ok, Err}
-use Rattle.words.specs.declared.faults.WordFault.the-variants.{Missing, Wrong, Limit}
+use Rattle.words.specs.declared.faults.WordFault.the-variants.{Wrong, Limit}
 use Rattle.words.specs.declared.faults.SchemaFault.{SchemaFault}
-use Rattle.words.specs.declared.faults.SchemaFault.the-variants.{Words, Unknown, Unjoined}
+use Rattle.words.specs.declared.faults.SchemaFault.the-variants.{Words}
 use Rattle.words.specs.Words.{word, worded, then, starts}
-use Rattle.words.proofs.Inverse.{err-ok, then-ok, worded-ok, if-ok, else-ok}
+use Rattle.words.proofs.Inverse.{err-ok, then-ok, worded-ok, if-ok}
 use Rattle.problems.specs.declared.Schema.{Schema}
 use Rattle.words.specs.Items.{sized}
 use Rattle.problems.specs.Problem.{Link, schema-of, schema, link, links, one-word, whole-schema}

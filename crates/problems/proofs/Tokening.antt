@@ -1,7 +1,7 @@
 -- The tokens of an accepted problem's rules and link maps.
 use mathlib.Core.Path.{_≡_, refl, sym, ap, _∙_}
 use mathlib.Core.Bool.{Bool, true, false, cond}
-use mathlib.Core.List.{List, [], _∷_, _++_, map}
+use mathlib.Core.List.{List, [], _∷_, map}
 use mathlib.Core.Logic.{_⊎_, ⊎-elim}
 use Prim.Native.Nat.{ℕ, suc, _+_, _-_, _*_, _/_, _%_, _<_, _≤_}
 use native.Mathlib.Omega.{arith}
@@ -9,13 +9,11 @@ use lib.Dec.{ltb}
 use lib.ListN.{length, getD, take, length-take}
 use Rattle.std.proofs.shelf.Lists.{length-map, getD-take}
 use Rattle.std.proofs.shelf.Ways.{tells}
-use Rattle.std.specs.declared.option.Option.{Option}
 use Rattle.std.specs.declared.option.Option.the-variants.{Some, None}
 use Rattle.std.specs.declared.result.Result.{Result}
-use Rattle.std.specs.declared.result.Result.the-variants.{Ok, Err}
-use Rattle.words.specs.declared.faults.SchemaFault.{SchemaFault}
+use Rattle.std.specs.declared.result.Result.the-variants.{Ok}
 use Rattle.words.specs.declared.faults.WordFault.{WordFault}
-use Rattle.words.specs.Items.{places, sizes}
+use Rattle.words.specs.Items.{places}
 use Rattle.words.specs.Tags.{tagged}
 use Rattle.words.specs.Words.{starts}
 use Rattle.words.specs.Tokens.{Shown, rule, link-map, token}
@@ -23,9 +21,9 @@ use Rattle.words.proofs.Items.{items-at}
 use Rattle.words.proofs.Laid.{ok-same}
 use Rattle.words.proofs.Tokening.{rule-tokened, map-tokened}
 use Rattle.problems.specs.declared.Found.{Found}
-use Rattle.problems.specs.Problem.{Link, Rule, Problem, rule-size, path-size, read}
+use Rattle.problems.specs.Problem.{Rule, Problem, rule-size, path-size, read}
 use Rattle.problems.specs.Problem as problem
-use Rattle.problems.specs.Shown.{Seen, told, outline-of}
+use Rattle.problems.specs.Shown.{told, outline-of}
 use Rattle.problems.specs.Tokens.{unless-refused, token-in, no-rule, rules-at, maps-at, rule-token, map-token}
 use Rattle.problems.proofs.Laying.{rule-told, map-told}
 use Rattle.problems.proofs.Problems.{problem-told}

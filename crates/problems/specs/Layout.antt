@@ -4,7 +4,7 @@ use mathlib.Core.List.{List, [], _∷_, _++_, map}
 use Prim.Native.Nat.{ℕ, _+_, _*_, _<_, _≤_}
 use lib.ListN.{length, getD}
 use Rattle.std.specs.shelf.Lists.{All, joined}
-use Rattle.std.specs.declared.result.Result.the-variants.{Ok, Err}
+use Rattle.std.specs.declared.result.Result.the-variants.{Ok}
 use Rattle.words.specs.Tags.{tagged}
 use Rattle.words.specs.Numbered.{numbered, Each}
 use Rattle.problems.specs.Problem.{Link, Rule, Problem, no-link, begins, stops, read}

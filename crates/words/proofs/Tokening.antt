@@ -1,8 +1,8 @@
 -- Words that stand as a rule or a link map are laid out are read as its token.
-use mathlib.Core.Path.{_≡_, refl, sym, ap, _∙_}
-use mathlib.Core.Bool.{Bool, true, false, cond}
+use mathlib.Core.Path.{_≡_, refl, ap, _∙_}
+use mathlib.Core.Bool.{true, false, cond}
 use mathlib.Core.List.{List, [], _∷_, _++_}
-use Prim.Native.Nat.{ℕ, _+_, _-_, _*_, _/_, _%_, _<_, _≤_}
+use Prim.Native.Nat.{ℕ, _+_, _/_, _%_, _<_, _≤_}
 use native.Mathlib.Omega.{arith}
 use lib.Dec.{ltb}
 use lib.ListN.{length, getD, take, drop, length-append, length-drop}
@@ -12,11 +12,11 @@ use Rattle.std.specs.declared.option.Option.the-variants.{Some}
 use Rattle.std.specs.declared.result.Result.the-variants.{Ok, Err}
 use Rattle.words.specs.declared.faults.WordFault.the-variants.{Missing}
 use Rattle.words.specs.declared.tags.Tag.{Tag}
-use Rattle.words.specs.Words.{word, then}
+use Rattle.words.specs.Words.{then}
 use Rattle.words.specs.Tags.{tagged, number, size}
 use Rattle.words.specs.Tokens.{Shown, rule, link-map, tag-of, part, within, token-of, tagged-token, token}
 use Rattle.words.proofs.Single.{Stood, word-read, size-fits}
-use Rattle.words.proofs.Standing.{Stands, front, back, one-inside, stands-stood}
+use Rattle.words.proofs.Standing.{Stands, front, back, stands-stood}
 use Rattle.words.specs.declared.tags.Tag.the-variants as tag
 
 stands-part : (ws : List ℕ) (a b n : ℕ) (xs : List ℕ) → length xs ≡ n → Stands ws a xs b → part ws a n ≡ xs

@@ -1,8 +1,8 @@
-use mathlib.Core.Path.{_≡_, refl, sym, ap, _∙_}
+use mathlib.Core.Path.{refl, sym, ap, _∙_}
 use Prim.Native.Nat.{_<_, _-_}
 use native.Mathlib.Omega.{arith}
 use lib.Dec.{lit≤}
-use lib.ListN.{length, length-set, take}
+use lib.ListN.{length-set, take}
 use Rattle.std.proofs.shelf.Results.{err-from-errBy}
 use Rattle.words.specs.Items.{prepended}
 use Rattle.problems.specs.Problem.{rule-size}

@@ -1,8 +1,5 @@
-use mathlib.Core.Logic.{_⊎_, inl, inr, ⊎-elim}
-use Prim.Native.Nat.{_<_, _≤_}
+use mathlib.Core.Logic.{inl, inr, ⊎-elim}
 use native.Mathlib.Omega.{arith}
-use lib.ListN.{length}
-use Rattle.std.specs.declared.result.Result.the-variants.{Err}
 use Rattle.problems.proofs.Tokening.{token-found, token-none}
 use Rattle.problems.proofs.token_in.Needs as need
 
