@@ -104,9 +104,6 @@ module _ (ts : List Link) (ws : List ℕ) where
       ap (λ m. reached (path ts ws m kind p)) (left-one n k h)
       ∙ ap (λ r. reached (then r (λ g. then (path ts ws (n - (k + 1)) (getD ts g no-link .to) (p + 1)) (λ x. Ok (g ∷ x .0, x .1))))) e
 
-  pub path-done : (n k kind p : ℕ) → n ≤ k → reached (path ts ws (n - k) kind p) ≡ Ok kind
-  path-done n k kind p h = let z : n - k ≡ 0 = omega arith in ap (λ m. reached (path ts ws m kind p)) z
-
   pub step-told : (kind p g : ℕ) → step ts ws kind p ≡ Ok g → (word tag.Step ws p ≡ Ok g) × (g < length ts) × (getD ts g no-link .from ≡ kind)
   step-told kind p g e =
       let x = then-ok (worded (word tag.Step ws p)) (step-of ts kind p) g e in
