@@ -40,11 +40,12 @@ module _ (kinds : ℕ) (ws : List ℕ) where
       let f : v / 256 ≡ l .from = omega (arith, g .to-known) in
       let o : v % 256 ≡ l .to = omega (arith, g .to-known) in
       let x : v / 256 < kinds = rw f (g .from-known) in
-      let y : v % 256 < kinds = rw o (g .to-known) in
-      (ap (λ r. then (worded r) (link-of kinds room at)) (word-read tag.Link ws at v (stands-stood tag.Link ws at b v [] w s))
-      ∙ pass room at v h x y
-      ∙ ap (λ a. Ok (record { from = a; to = v % 256 })) f ∙ ap (λ a. Ok (record { from = l .from; to = a })) o,
-      stands-starts tag.Link ws at b v [] (omega arith) s)
+      let y : v % 256 < kinds = rw o (g .to-known) in (
+        ap (λ r. then (worded r) (link-of kinds room at)) (word-read tag.Link ws at v (stands-stood tag.Link ws at b v [] w s))
+            ∙ pass room at v h x y
+            ∙ ap (λ a. Ok (record { from = a; to = v % 256 })) f ∙ ap (λ a. Ok (record { from = l .from; to = a })) o,
+        stands-starts tag.Link ws at b v [] (omega arith) s,
+      )
     where
       pass : (room at v : ℕ) → 0 < room → v / 256 < kinds → v % 256 < kinds → link-of kinds room at v ≡ Ok (record { from = v / 256; to = v % 256 })
       pass room at v h x y = grind (arith, tells)
@@ -84,8 +85,8 @@ module _ (kinds : ℕ) (ts : List Link) (ws : List ℕ) where
       let far : at + 1 + n + m ≡ at + (1 + length (l .0 .0) + length (q .0 .0)) = omega arith in
       rw same (record {
         laid = rw (← vf, ← far) (join ws at (at + 1) (at + 1 + n + m) (tagged tag.Rule v ∷ []) (map (tagged tag.Step) (l .0 .0) ++ map (tagged tag.Step) (q .0 .0))
-          (stood-stands tag.Rule ws at v s)
-          (join ws (at + 1) (at + 1 + n) (at + 1 + n + m) (map (tagged tag.Step) (l .0 .0)) (map (tagged tag.Step) (q .0 .0))
+            (stood-stands tag.Rule ws at v s)
+            (join ws (at + 1) (at + 1 + n) (at + 1 + n + m) (map (tagged tag.Step) (l .0 .0)) (map (tagged tag.Step) (q .0 .0))
             (path-stands ts ws n f (at + 1) (l .0) (l .1)) (path-stands ts ws m f (at + 1 + n) (q .0) (q .1))));
         good = record {
           known = let t = z .0 in grind (arith, tells);
@@ -93,10 +94,12 @@ module _ (kinds : ℕ) (ts : List Link) (ws : List ℕ) where
           right-short = omega arith;
           end = l .0 .1;
           left-walks = path-walks ts ws n f (at + 1) (l .0) (l .1);
-          right-walks = rw meet at (path-walks ts ws m f (at + 1 + n) (q .0) (q .1)) } })
+          right-walks = rw meet at (path-walks ts ws m f (at + 1 + n) (q .0) (q .1));
+        };
+      })
 
   paths-made : (at e : ℕ) (r : Rule) → path ts ws (length (r .left)) (r .first) (at + 1) ≡ Ok (r .left, e) → path ts ws (length (r .right)) (r .first) (at + 1 + length (r .left)) ≡ Ok (r .right, e)
-    → paths ts ws at (r .first) (length (r .left)) (length (r .right)) ≡ Ok r
+      → paths ts ws at (r .first) (length (r .left)) (length (r .right)) ≡ Ok r
   paths-made at e r a b =
       let n = length (r .left) in
       let m = length (r .right) in
@@ -117,15 +120,16 @@ module _ (kinds : ℕ) (ts : List Link) (ws : List ℕ) where
       let xs = map (tagged tag.Step) (r .left) in
       let ys = map (tagged tag.Step) (r .right) in
       let k = back ws at b (tagged tag.Rule v ∷ []) (xs ++ ys) s in
-      let right : Stands ws (at + 1 + nl) ys b = rw (length-map (r .left) (tagged tag.Step)) at (back ws (at + 1) b xs ys k) in
-      (rule-is kinds ts ws room at v (word-read tag.Rule ws at v (stands-stood tag.Rule ws at b v (xs ++ ys) w s)) h (rw vl (g .left-short)) (rw vr (g .right-short)) (rw vf (g .known))
-      ∙ ap (λ a. paths ts ws at a (v / 256 % 256) (v % 256)) vf
-      ∙ ap (λ a. paths ts ws at (r .first) a (v % 256)) vl
-      ∙ ap (λ a. paths ts ws at (r .first) nl a) vr
-      ∙ paths-made at (g .end) r
-        (path-made ts ws (r .left) (r .first) (g .end) (at + 1) (at + 1 + length xs) (omega arith) (g .left-walks) (front ws (at + 1) b xs ys k))
-        (path-made ts ws (r .right) (r .first) (g .end) (at + 1 + nl) b (omega arith) (g .right-walks) right),
-      stands-starts tag.Rule ws at b v (xs ++ ys) (omega arith) s)
+      let right : Stands ws (at + 1 + nl) ys b = rw (length-map (r .left) (tagged tag.Step)) at (back ws (at + 1) b xs ys k) in (
+        rule-is kinds ts ws room at v (word-read tag.Rule ws at v (stands-stood tag.Rule ws at b v (xs ++ ys) w s)) h (rw vl (g .left-short)) (rw vr (g .right-short)) (rw vf (g .known))
+            ∙ ap (λ a. paths ts ws at a (v / 256 % 256) (v % 256)) vf
+            ∙ ap (λ a. paths ts ws at (r .first) a (v % 256)) vl
+            ∙ ap (λ a. paths ts ws at (r .first) nl a) vr
+            ∙ paths-made at (g .end) r
+            (path-made ts ws (r .left) (r .first) (g .end) (at + 1) (at + 1 + length xs) (omega arith) (g .left-walks) (front ws (at + 1) b xs ys k))
+            (path-made ts ws (r .right) (r .first) (g .end) (at + 1 + nl) b (omega arith) (g .right-walks) right),
+        stands-starts tag.Rule ws at b v (xs ++ ys) (omega arith) s,
+      )
 
 -- kind maps
 module _ (total kinds : ℕ) (ws : List ℕ) where
@@ -141,9 +145,10 @@ module _ (total kinds : ℕ) (ws : List ℕ) where
       let w : v < 65536 = omega arith in
       let o : v % 256 ≡ k = omega arith in
       let d : v / 256 + room ≡ total = omega arith in
-      let y : v % 256 < kinds = omega arith in
-      (ap (λ r. then (worded r) (kind-of total kinds room at)) (word-read tag.KindMap ws at v (stands-stood tag.KindMap ws at b v [] w s)) ∙ pass room at v d y ∙ ap Ok o,
-      more-some room h)
+      let y : v % 256 < kinds = omega arith in (
+        ap (λ r. then (worded r) (kind-of total kinds room at)) (word-read tag.KindMap ws at v (stands-stood tag.KindMap ws at b v [] w s)) ∙ pass room at v d y ∙ ap Ok o,
+        more-some room h,
+      )
     where
       pass : (room at v : ℕ) → v / 256 + room ≡ total → v % 256 < kinds → kind-of total kinds room at v ≡ Ok (v % 256)
       pass room at v d y = grind (arith, tells)
@@ -175,11 +180,13 @@ module _ (ss : List Link) (km : List ℕ) (ts : List Link) (ws : List ℕ) where
       let far : at + 1 + m ≡ at + (1 + length (w .0 .0)) = omega arith in
       rw same (record {
         laid = rw (← fields, ← far) (join ws at (at + 1) (at + 1 + m) (tagged tag.LinkMap v ∷ []) (map (tagged tag.Step) (w .0 .0))
-          (stood-stands tag.LinkMap ws at v (word-told tag.LinkMap ws at v (worded-ok (word tag.LinkMap ws at) v (x .1))))
-          (path-stands ts ws m begin (at + 1) (w .0) (w .1)));
+            (stood-stands tag.LinkMap ws at v (word-told tag.LinkMap ws at v (worded-ok (word tag.LinkMap ws at) v (x .1))))
+            (path-stands ts ws m begin (at + 1) (w .0) (w .1)));
         good = record {
           short = omega arith;
-          walks = subst (λ k. Walks ts (begins ss km k) (w .0 .0) (stops ss km k)) num (subst (λ t. Walks ts begin (w .0 .0) t) meet (path-walks ts ws m begin (at + 1) (w .0) (w .1))) } })
+          walks = subst (λ k. Walks ts (begins ss km k) (w .0 .0) (stops ss km k)) num (subst (λ t. Walks ts begin (w .0 .0) t) meet (path-walks ts ws m begin (at + 1) (w .0) (w .1)));
+        };
+      })
 
   pub map-read : length ss ≤ 64 → length ts ≤ 64 → (n room at b : ℕ) (q : List ℕ) → n + room ≡ length ss → 0 < room → Good-map ss km ts n q → Stands ws at (map-words n q) b → (link-mapped ss km ts ws room at ≡ Ok q) × (ltb 0 room ≡ true)
   map-read few small n room at b q t h g s =
@@ -189,10 +196,11 @@ module _ (ss : List Link) (km : List ℕ) (ts : List Link) (ws : List ℕ) where
       let o : v % 256 ≡ m = omega (arith, g .short) in
       let d : v / 256 ≡ n = omega (arith, g .short) in
       let xs = map (tagged tag.Step) q in
-      let z : eqb (stops ss km n) (stops ss km n) ≡ true = grind (arith, tells) in
-      (map-is-path ss km ts ws room at v (word-read tag.LinkMap ws at v (stands-stood tag.LinkMap ws at b v xs w s)) (rw o (g .short)) (rw d t)
-      ∙ ap (λ a. then (path ts ws (v % 256) (begins ss km a) (at + 1)) (arriving (stops ss km a) (at + v % 256))) d
-      ∙ ap (λ a. then (path ts ws a (begins ss km n) (at + 1)) (arriving (stops ss km n) (at + a))) o
-      ∙ ap (λ x. then x (arriving (stops ss km n) (at + m))) (path-made ts ws q (begins ss km n) (stops ss km n) (at + 1) b (omega arith) (g .walks) (back ws at b (tagged tag.LinkMap v ∷ []) xs s))
-      ∙ ap (λ c. cond c (Ok q) (Err (Unjoined (at + m)))) z,
-      more-some room h)
+      let z : eqb (stops ss km n) (stops ss km n) ≡ true = grind (arith, tells) in (
+        map-is-path ss km ts ws room at v (word-read tag.LinkMap ws at v (stands-stood tag.LinkMap ws at b v xs w s)) (rw o (g .short)) (rw d t)
+            ∙ ap (λ a. then (path ts ws (v % 256) (begins ss km a) (at + 1)) (arriving (stops ss km a) (at + v % 256))) d
+            ∙ ap (λ a. then (path ts ws a (begins ss km n) (at + 1)) (arriving (stops ss km n) (at + a))) o
+            ∙ ap (λ x. then x (arriving (stops ss km n) (at + m))) (path-made ts ws q (begins ss km n) (stops ss km n) (at + 1) b (omega arith) (g .walks) (back ws at b (tagged tag.LinkMap v ∷ []) xs s))
+            ∙ ap (λ c. cond c (Ok q) (Err (Unjoined (at + m)))) z,
+        more-some room h,
+      )

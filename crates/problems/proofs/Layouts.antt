@@ -46,11 +46,16 @@ module _ (side : ℕ) (ws : List ℕ) (at k : ℕ) (ls : List Link) where
       let r = schema-told side ws at k (a .1 ∙ ap Ok p) in
       let more : ℕ → ℕ → Bool = λ room p. starts tag.Link ws p in
       let z = items-stand one-word more (link k ws) ws 64 (λ _. link-words) (λ _. Good-link k) (link-stands k ws) 64 0 (at + 1) ls refl l in
-      let c : at + 1 + sizes one-word ls ≡ at + 1 + length ls = ap (λ j. at + 1 + j) (sizes-one ls) in
-      (rw (← c, joined-numbered link-words 0 ls) (join ws at (at + 1) (at + 1 + sizes one-word ls) (tagged tag.Schema (side * 256 + k) ∷ []) (numbered (λ _. link-words) 0 ls)
-        (stood-stands tag.Schema ws at (side * 256 + k) (word-told tag.Schema ws at (side * 256 + k) (r .head))) z),
-      record { some = r .some; few = r .few; few-links = items-length one-word more (link k ws) 64 (at + 1) ls l;
-        known = each-all (Good-link k) 0 ls (items-each one-word more (link k ws) ws 64 (λ _. link-words) (λ _. Good-link k) (link-good k ws) 64 0 (at + 1) ls refl l) })
+      let c : at + 1 + sizes one-word ls ≡ at + 1 + length ls = ap (λ j. at + 1 + j) (sizes-one ls) in (
+        rw (← c, joined-numbered link-words 0 ls) (join ws at (at + 1) (at + 1 + sizes one-word ls) (tagged tag.Schema (side * 256 + k) ∷ []) (numbered (λ _. link-words) 0 ls)
+            (stood-stands tag.Schema ws at (side * 256 + k) (word-told tag.Schema ws at (side * 256 + k) (r .head))) z),
+        record {
+          some = r .some;
+          few = r .few;
+          few-links = items-length one-word more (link k ws) 64 (at + 1) ls l;
+          known = each-all (Good-link k) 0 ls (items-each one-word more (link k ws) ws 64 (λ _. link-words) (λ _. Good-link k) (link-good k ws) 64 0 (at + 1) ls refl l);
+        },
+      )
 
   kinds-pass : (v : ℕ) → v / 256 ≡ side → 0 < v % 256 → v % 256 ≤ 32 → schema-of side at v ≡ Ok (v % 256)
   kinds-pass v a b d = grind (arith, tells)
@@ -66,7 +71,7 @@ module _ (side : ℕ) (ws : List ℕ) (at k : ℕ) (ls : List Link) where
       ap (λ r. then (then (worded r) (schema-of side at)) (λ k. then (links k ws (at + 1)) (λ ls. Ok (k, ls)))) (word-read tag.Schema ws at v (stands-stood tag.Schema ws at b v (joined link-words ls) w s))
       ∙ ap (λ r. then r (λ k. then (links k ws (at + 1)) (λ ls. Ok (k, ls)))) (kinds-pass v d (omega (arith, g .some)) (omega (arith, g .few)) ∙ ap Ok m)
       ∙ ap (λ r. then r (λ ls. Ok (k, ls))) (items-read one-word (λ room p. starts tag.Link ws p) (link k ws) ws 64 (λ _. link-words) (λ _. Good-link k) (λ n x. refl) (link-read k ws (g .few))
-        64 0 (at + 1) b ls refl (g .few-links) (all-each (Good-link k) 0 ls (g .known)) l z)
+      64 0 (at + 1) b ls refl (g .few-links) (all-each (Good-link k) 0 ls (g .known)) l z)
 
 pub read-layout : (ws : List ℕ) (p : Problem) → read ws ≡ Ok p → (ws ≡ layout p) × Well-formed p
 read-layout ws p e =
@@ -86,7 +91,7 @@ read-layout ws p e =
     let a = schema-laid 0 ws 0 sk ss (r .sourced) in
     let b = schema-laid 1 ws p1 tk ts (r .targeted) in
     let c : Stands ws p2 (joined rule-words (p .rules)) p3 = rw (joined-numbered rule-words 0 (p .rules))
-      (items-stand rule-size starting (rule tk ts ws) ws 128 (λ _. rule-words) (λ _. Good-rule tk ts) (λ n room q x t h. rule-told tk ts ws room q x h .laid) 128 0 p2 (p .rules) refl (r .ruled)) in
+    (items-stand rule-size starting (rule tk ts ws) ws 128 (λ _. rule-words) (λ _. Good-rule tk ts) (λ n room q x t h. rule-told tk ts ws room q x h .laid) 128 0 p2 (p .rules) refl (r .ruled)) in
     let d = items-stand one-word left (kind-mapped sk tk ws) ws sk kind-words (λ _ k. k < tk) (kind-stands sk tk ws) sk 0 p3 km (zero-add sk) (r .kinded) in
     let f = items-stand path-size left (link-mapped ss km ts ws) ws (length ss) map-words (Good-map ss km ts) (λ n room q x t h. map-told ss km ts ws n room q x t h .laid) (length ss) 0 p4 (p .link-map) (zero-add (length ss)) (r .linked) in
     let A = schema-words 0 sk ss in
@@ -95,29 +100,31 @@ read-layout ws p e =
     let D = numbered kind-words 0 km in
     let F = numbered map-words 0 (p .link-map) in
     let s : Stands ws 0 (before-end p) p5 =
-      join ws 0 p1 p5 A (B ++ (C ++ (D ++ F))) (a .0) (join ws p1 p2 p5 B (C ++ (D ++ F)) (b .0) (join ws p2 p3 p5 C (D ++ F) c (join ws p3 p4 p5 D F d f))) in
+    join ws 0 p1 p5 A (B ++ (C ++ (D ++ F))) (a .0) (join ws p1 p2 p5 B (C ++ (D ++ F)) (b .0) (join ws p2 p3 p5 C (D ++ F) c (join ws p3 p4 p5 D F d f))) in
     let z = end-told ws p5 p5 (r .closed) in
     let m : length (before-end p) ≡ p5 = let h = s .far in omega arith in
-    let y : Stands ws p5 (tagged tag.End (length (before-end p)) ∷ []) (p5 + 1) = rw m (stood-stands tag.End ws p5 p5 (z .0)) in
-    (whole ws (layout p) (p5 + 1) (join ws 0 p5 (p5 + 1) (before-end p) (tagged tag.End (length (before-end p)) ∷ []) s y) (z .1),
-    record {
-      source = a .1;
-      target = b .1;
-      few-rules = items-length rule-size starting (rule tk ts ws) 128 p2 (p .rules) (r .ruled);
-      rules = each-all (Good-rule tk ts) 0 (p .rules) (items-each rule-size starting (rule tk ts ws) ws 128 (λ _. rule-words) (λ _. Good-rule tk ts) (λ n room q x t h. rule-told tk ts ws room q x h .good) 128 0 p2 (p .rules) refl (r .ruled));
-      kinds-full = maps-length sk tk ws p3 km (r .kinded);
-      kinds = each-all (λ k. k < tk) 0 km (items-each one-word left (kind-mapped sk tk ws) ws sk kind-words (λ _ k. k < tk) (λ n room q k t h. kind-told sk tk ws room q k h .known) sk 0 p3 km (zero-add sk) (r .kinded));
-      maps-full = items-full path-size left (link-mapped ss km ts ws) (λ j q. more-one j) (length ss) p4 (p .link-map) (r .linked);
-      maps = items-each path-size left (link-mapped ss km ts ws) ws (length ss) map-words (Good-map ss km ts) (λ n room q x t h. map-told ss km ts ws n room q x t h .good) (length ss) 0 p4 (p .link-map) (zero-add (length ss)) (r .linked) })
+    let y : Stands ws p5 (tagged tag.End (length (before-end p)) ∷ []) (p5 + 1) = rw m (stood-stands tag.End ws p5 p5 (z .0)) in (
+      whole ws (layout p) (p5 + 1) (join ws 0 p5 (p5 + 1) (before-end p) (tagged tag.End (length (before-end p)) ∷ []) s y) (z .1),
+      record {
+        source = a .1;
+        target = b .1;
+        few-rules = items-length rule-size starting (rule tk ts ws) 128 p2 (p .rules) (r .ruled);
+        rules = each-all (Good-rule tk ts) 0 (p .rules) (items-each rule-size starting (rule tk ts ws) ws 128 (λ _. rule-words) (λ _. Good-rule tk ts) (λ n room q x t h. rule-told tk ts ws room q x h .good) 128 0 p2 (p .rules) refl (r .ruled));
+        kinds-full = maps-length sk tk ws p3 km (r .kinded);
+        kinds = each-all (λ k. k < tk) 0 km (items-each one-word left (kind-mapped sk tk ws) ws sk kind-words (λ _ k. k < tk) (λ n room q k t h. kind-told sk tk ws room q k h .known) sk 0 p3 km (zero-add sk) (r .kinded));
+        maps-full = items-full path-size left (link-mapped ss km ts ws) (λ j q. more-one j) (length ss) p4 (p .link-map) (r .linked);
+        maps = items-each path-size left (link-mapped ss km ts ws) ws (length ss) map-words (Good-map ss km ts) (λ n room q x t h. map-told ss km ts ws n room q x t h .good) (length ss) 0 p4 (p .link-map) (zero-add (length ss)) (r .linked);
+      },
+    )
 
 -- what comes first behind the links, and behind the rules
 kinds-other : (u : Tag) (ws : List ℕ) (at b n kinds : ℕ) (km xs : List ℕ) → (number tag.KindMap ≡ number u → ⊥) → kinds ≤ 32 → n ≤ 32 → 0 < length km → All (λ k. k < kinds) km
-  → Stands ws at (numbered kind-words n km ++ xs) b → starts u ws at ≡ false
+    → Stands ws at (numbered kind-words n km ++ xs) b → starts u ws at ≡ false
 kinds-other u ws at b n kinds [] xs ne few small h a s = absurd (omega arith)
 kinds-other u ws at b n kinds (k ∷ km) xs ne few small h a s = let w : n * 256 + k < 268435456 = omega (arith, a .0) in stands-other u tag.KindMap ws at b (n * 256 + k) _ w ne s
 
 rules-no-link : (ws : List ℕ) (at b kinds : ℕ) (ts : List Link) (rs : List Rule) (km xs : List ℕ) → kinds ≤ 32 → All (Good-rule kinds ts) rs → 0 < length km → All (λ k. k < kinds) km
-  → Stands ws at (joined rule-words rs ++ (numbered kind-words 0 km ++ xs)) b → starts tag.Link ws at ≡ false
+    → Stands ws at (joined rule-words rs ++ (numbered kind-words 0 km ++ xs)) b → starts tag.Link ws at ≡ false
 rules-no-link ws at b kinds ts [] km xs few g h a s = kinds-other tag.Link ws at b 0 kinds km xs (λ q. omega arith) few (omega arith) h a s
 rules-no-link ws at b kinds ts (r ∷ rs) km xs few g h a s =
     let v = r .first * 65536 + length (r .left) * 256 + length (r .right) in
@@ -170,10 +177,10 @@ module _ (ws : List ℕ) (p : Problem) (w : Well-formed p) (all : Stands ws 0 (l
       let ld : length D ≡ sizes one-word km = numbered-length one-word kind-words (λ n x. refl) 0 km in
       let lf : length F ≡ sizes path-size lm = numbered-length path-size map-words map-long 0 lm in
       let le : length (before-end p) ≡ p5 =
-        let h = length-append A (B ++ (C ++ (D ++ F))) in let i = length-append B (C ++ (D ++ F)) in let j = length-append C (D ++ F) in let k = length-append D F in omega arith in
+      let h = length-append A (B ++ (C ++ (D ++ F))) in let i = length-append B (C ++ (D ++ F)) in let j = length-append C (D ++ F) in let k = length-append D F in omega arith in
       let short : p5 < 268435456 =
-        let h = rules-short tk ts rs (w .rules) in let k = maps-short ss km ts 0 lm (w .maps) in let o = sizes-one km in
-        omega (arith, w .source .few, w .source .few-links, w .target .few-links, w .few-rules, w .kinds-full, w .maps-full) in
+      let h = rules-short tk ts rs (w .rules) in let k = maps-short ss km ts 0 lm (w .maps) in let o = sizes-one km in
+      omega (arith, w .source .few, w .source .few-links, w .target .few-links, w .few-rules, w .kinds-full, w .maps-full) in
       let E = tagged tag.End (length (before-end p)) ∷ [] in
       let s0 : Stands ws 0 (before-end p) p5 = rw (zero-add (length (before-end p)), le) at (front ws 0 (length ws) (before-end p) E all) in
       let s1 : Stands ws p5 (tagged tag.End p5 ∷ []) (length ws) = rw (zero-add (length (before-end p)), le) at (back ws 0 (length ws) (before-end p) E all) in
@@ -192,18 +199,20 @@ module _ (ws : List ℕ) (p : Problem) (w : Well-formed p) (all : Stands ws 0 (l
         sourced = schema-read 0 ws 0 sk ss (omega arith) (w .source) a0 (stands-other tag.Link tag.Schema ws p1 p5 (1 * 256 + tk) _ (omega (arith, w .target .few)) (λ q. omega arith) a1);
         targeted = schema-read 1 ws p1 tk ts (omega arith) (w .target) b0 (rules-no-link ws p2 p5 tk ts rs km F (w .target .few) (w .rules) some (w .kinds) b1);
         ruled = items-read rule-size (λ room q. starts tag.Rule ws q) (rule tk ts ws) ws 128 (λ _. rule-words) (λ _. Good-rule tk ts) rule-long (rule-read tk ts ws (w .target .few) (w .target .few-links))
-          128 0 p2 p3 rs refl (w .few-rules) (all-each (Good-rule tk ts) 0 rs (w .rules)) (rw (joined-numbered rule-words 0 rs) at c0)
-          (kinds-other tag.Rule ws p3 p5 0 tk km F (λ q. omega arith) (w .target .few) (omega arith) some (w .kinds) c1);
+            128 0 p2 p3 rs refl (w .few-rules) (all-each (Good-rule tk ts) 0 rs (w .rules)) (rw (joined-numbered rule-words 0 rs) at c0)
+            (kinds-other tag.Rule ws p3 p5 0 tk km F (λ q. omega arith) (w .target .few) (omega arith) some (w .kinds) c1);
         kinded = items-read one-word (λ left q. ltb 0 left) (kind-mapped sk tk ws) ws sk kind-words (λ _ k. k < tk) (λ n x. refl) (kind-read sk tk ws (w .source .few) (w .target .few))
-          sk 0 p3 p4 km (zero-add sk) (omega (arith, w .kinds-full)) (all-each (λ k. k < tk) 0 km (w .kinds)) d0 (no (sk - length km) (omega (arith, w .kinds-full)));
+            sk 0 p3 p4 km (zero-add sk) (omega (arith, w .kinds-full)) (all-each (λ k. k < tk) 0 km (w .kinds)) d0 (no (sk - length km) (omega (arith, w .kinds-full)));
         linked = items-read path-size (λ left q. ltb 0 left) (link-mapped ss km ts ws) ws (length ss) map-words (Good-map ss km ts) map-long (map-read ss km ts ws (w .source .few-links) (w .target .few-links))
-          (length ss) 0 p4 p5 lm (zero-add (length ss)) (omega (arith, w .maps-full)) (w .maps) f0 (no (length ss - length lm) (omega (arith, w .maps-full)));
-        closed = end-read ws p5 (stands-stood tag.End ws p5 (length ws) p5 [] short s1) (let q = s1 .far in omega arith) }
+            (length ss) 0 p4 p5 lm (zero-add (length ss)) (omega (arith, w .maps-full)) (w .maps) f0 (no (length ss - length lm) (omega (arith, w .maps-full)));
+        closed = end-read ws p5 (stands-stood tag.End ws p5 (length ws) p5 [] short s1) (let q = s1 .far in omega arith);
+      }
 
 pub reads-layouts : Reads-layouts
-reads-layouts ws p =
-    (read-layout ws p,
-    λ h. let s : Stands ws 0 (layout p) (length ws) = rw (h .0) (itself (layout p)) in problem-made ws p (layout-parts ws p (h .1) s))
+reads-layouts ws p = (
+  read-layout ws p,
+  λ h. let s : Stands ws 0 (layout p) (length ws) = rw (h .0) (itself (layout p)) in problem-made ws p (layout-parts ws p (h .1) s),
+)
 
 pub reads-once : Reads-once
 reads-once ws vs p a b = read-layout ws p a .0 ∙ sym (read-layout vs p b .0)

@@ -44,7 +44,7 @@ map-at n kinds ws at k m h =
     let l = maps-length n kinds ws at (kinds-got n kinds ws at) m in
     let q = places-one (kinds-got n kinds ws at) at k (omega arith) in
     kind-told n kinds ws (n - k) (at + k) (getD (kinds-got n kinds ws at) k 0)
-      (ap (kind-mapped n kinds ws (n - k)) (sym q) ∙ items-at one-word (λ left p. ltb 0 left) (kind-mapped n kinds ws) n at k (kinds-got n kinds ws at) 0 m (omega arith))
+    (ap (kind-mapped n kinds ws (n - k)) (sym q) ∙ items-at one-word (λ left p. ltb 0 left) (kind-mapped n kinds ws) n at k (kinds-got n kinds ws at) 0 m (omega arith))
 
 pub map-inside : (n kinds : ℕ) (ws : List ℕ) (at k : ℕ) → Mapped n kinds ws at → k < n → at + k < length ws
 map-inside n kinds ws at k m h = let r = map-at n kinds ws at k m h in word-told tag.KindMap ws (at + k) (r .fields) (r .head) .inside
@@ -58,19 +58,19 @@ map-is n kinds ws at k v m h e =
 
 -- a link map, where its word and its path are known
 pub map-is-path : (ss : List Link) (km : List ℕ) (ts : List Link) (ws : List ℕ) (left at v : ℕ) → word tag.LinkMap ws at ≡ Ok v → v % 256 ≤ 64 → v / 256 + left ≡ length ss
-  → link-mapped ss km ts ws left at ≡ then (path ts ws (v % 256) (begins ss km (v / 256)) (at + 1)) (arriving (stops ss km (v / 256)) (at + v % 256))
+    → link-mapped ss km ts ws left at ≡ then (path ts ws (v % 256) (begins ss km (v / 256)) (at + 1)) (arriving (stops ss km (v / 256)) (at + v % 256))
 map-is-path ss km ts ws left at v e h n = ap (λ r. then (worded r) (map-of ss km ts ws left at)) e ∙ grind (arith, tells)
 
 pub map-code : (ss : List Link) (km : List ℕ) (ts : List Link) (ws : List ℕ) (left at v begin end last links : ℕ) → word tag.LinkMap ws at ≡ Ok v → v % 256 ≤ 64 → v / 256 + left ≡ links → length ss ≡ links
-  → begin ≡ begins ss km (v / 256) → end ≡ stops ss km (v / 256)
-  → reached (path ts ws (v % 256) begin (at + 1)) ≡ Ok last → last ≡ end
-  → Ok (at + 1 + v % 256) ≡ behind path-size at (link-mapped ss km ts ws left at)
+    → begin ≡ begins ss km (v / 256) → end ≡ stops ss km (v / 256)
+    → reached (path ts ws (v % 256) begin (at + 1)) ≡ Ok last → last ≡ end
+    → Ok (at + 1 + v % 256) ≡ behind path-size at (link-mapped ss km ts ws left at)
 map-code ss km ts ws left at v begin end last links e h n ln a b r d =
     let x = reached-ok ts ws (path ts ws (v % 256) begin (at + 1)) last r in
     let l = path-length ts ws (v % 256) begin (at + 1) (x .0) (x .1) in
     let z : eqb (x .0 .1) (stops ss km (v / 256)) ≡ true = let s : x .0 .1 ≡ stops ss km (v / 256) = x .2 ∙ d ∙ b in grind (arith, tells) in
     sym (
-      ap (behind path-size at) (map-is-path ss km ts ws left at v e h (n ∙ sym ln))
-      ∙ ap (λ r. behind path-size at (then r (arriving (stops ss km (v / 256)) (at + v % 256)))) (ap (λ s. path ts ws (v % 256) s (at + 1)) (sym a) ∙ x .1)
-      ∙ ap (λ c. behind path-size at (cond c (Ok (x .0 .0)) (Err (Unjoined (at + v % 256))))) z
-      ∙ ap Ok (omega arith))
+    ap (behind path-size at) (map-is-path ss km ts ws left at v e h (n ∙ sym ln))
+    ∙ ap (λ r. behind path-size at (then r (arriving (stops ss km (v / 256)) (at + v % 256)))) (ap (λ s. path ts ws (v % 256) s (at + 1)) (sym a) ∙ x .1)
+    ∙ ap (λ c. behind path-size at (cond c (Ok (x .0 .0)) (Err (Unjoined (at + v % 256))))) z
+    ∙ ap Ok (omega arith))

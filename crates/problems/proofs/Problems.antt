@@ -36,8 +36,14 @@ problem-told ws p e =
     let l = then-ok (link-maps (s .0 .1) (k .0) (t .0 .1) ws a3) (λ lm. behind-maps ws (s .0) (t .0) (r .0) (k .0) lm (a3 + sizes path-size lm)) p (k .2) in
     let d = then-ok (worded (end ws (a3 + sizes path-size (l .0)))) (λ _. Ok (record { source-kinds = s .0 .0; source-links = s .0 .1; target-kinds = t .0 .0; target-links = t .0 .1; rules = r .0; kind-map = k .0; link-map = l .0 })) p (l .2) in
     let same : p ≡ record { source-kinds = s .0 .0; source-links = s .0 .1; target-kinds = t .0 .0; target-links = t .0 .1; rules = r .0; kind-map = k .0; link-map = l .0 } = ok-same (d .2) in
-    rw same (record { sourced = s .1; targeted = t .1; ruled = r .1; kinded = k .1; linked = l .1;
-      closed = let w = worded-ok (end ws (a3 + sizes path-size (l .0))) (d .0) (d .1) in w ∙ ap Ok (end-same ws (a3 + sizes path-size (l .0)) (d .0) w) })
+    rw same (record {
+      sourced = s .1;
+      targeted = t .1;
+      ruled = r .1;
+      kinded = k .1;
+      linked = l .1;
+      closed = let w = worded-ok (end ws (a3 + sizes path-size (l .0))) (d .0) (d .1) in w ∙ ap Ok (end-same ws (a3 + sizes path-size (l .0)) (d .0) w);
+    })
 
 pub problem-made : (ws : List ℕ) (p : Problem) → Problem-read ws p → read ws ≡ Ok p
 problem-made ws p r =

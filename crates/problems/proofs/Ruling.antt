@@ -23,12 +23,12 @@ module _ (kinds : ℕ) (ts : List Link) (ws : List ℕ) where
   path-past n kind p k h e = let x = reached-ok ts ws (path ts ws n kind p) k e in path-inside ts ws n kind p (x .0) h (x .1)
 
   pub rule-is : (room at v : ℕ) → word tag.Rule ws at ≡ Ok v → 0 < room → v / 256 % 256 ≤ 64 → v % 256 ≤ 64 → v / 65536 < kinds
-    → rule kinds ts ws room at ≡ paths ts ws at (v / 65536) (v / 256 % 256) (v % 256)
+      → rule kinds ts ws room at ≡ paths ts ws at (v / 65536) (v / 256 % 256) (v % 256)
   rule-is room at v e h a b d =
       ap (λ r. then (worded r) (rule-of kinds ts ws room at)) e ∙ grind (arith, tells)
 
   pub paths-behind : (at first n m k j : ℕ) → reached (path ts ws n first (at + 1)) ≡ Ok k → reached (path ts ws m first (at + 1 + n)) ≡ Ok j → k ≡ j
-    → Ok (at + 1 + n + m) ≡ behind rule-size at (paths ts ws at first n m)
+      → Ok (at + 1 + n + m) ≡ behind rule-size at (paths ts ws at first n m)
   paths-behind at first n m k j a b e =
       let x = reached-ok ts ws (path ts ws n first (at + 1)) k a in
       let y = reached-ok ts ws (path ts ws m first (at + 1 + n)) j b in
@@ -36,14 +36,14 @@ module _ (kinds : ℕ) (ts : List Link) (ws : List ℕ) where
       let q = path-length ts ws m first (at + 1 + n) (y .0) (y .1) in
       let z : eqb (x .0 .1) (y .0 .1) ≡ true = let s : x .0 .1 ≡ y .0 .1 = x .2 ∙ e ∙ sym (y .2) in grind (arith, tells) in
       sym (
-        ap (λ r. behind rule-size at (then r (λ l. then (path ts ws m first (at + 1 + n)) (meeting first (at + n + m) l)))) (x .1)
-        ∙ ap (λ r. behind rule-size at (then r (meeting first (at + n + m) (x .0)))) (y .1)
-        ∙ ap (λ b. behind rule-size at (cond b (Ok (record { first = first; left = x .0 .0; right = y .0 .0 })) (Err (Unjoined (at + n + m))))) z
-        ∙ ap Ok (omega arith))
+      ap (λ r. behind rule-size at (then r (λ l. then (path ts ws m first (at + 1 + n)) (meeting first (at + n + m) l)))) (x .1)
+      ∙ ap (λ r. behind rule-size at (then r (meeting first (at + n + m) (x .0)))) (y .1)
+      ∙ ap (λ b. behind rule-size at (cond b (Ok (record { first = first; left = x .0 .0; right = y .0 .0 })) (Err (Unjoined (at + n + m))))) z
+      ∙ ap Ok (omega arith))
 
   pub rule-code : (room at v k j : ℕ) → word tag.Rule ws at ≡ Ok v → 0 < room → v / 256 % 256 ≤ 64 → v % 256 ≤ 64 → v / 65536 < kinds
-    → reached (path ts ws (v / 256 % 256) (v / 65536) (at + 1)) ≡ Ok k → reached (path ts ws (v % 256) (v / 65536) (at + 1 + v / 256 % 256)) ≡ Ok j → k ≡ j
-    → Ok (at + 1 + v / 256 % 256 + v % 256) ≡ behind rule-size at (rule kinds ts ws room at)
+      → reached (path ts ws (v / 256 % 256) (v / 65536) (at + 1)) ≡ Ok k → reached (path ts ws (v % 256) (v / 65536) (at + 1 + v / 256 % 256)) ≡ Ok j → k ≡ j
+      → Ok (at + 1 + v / 256 % 256 + v % 256) ≡ behind rule-size at (rule kinds ts ws room at)
   rule-code room at v k j e h a b d p q s =
       paths-behind at (v / 65536) (v / 256 % 256) (v % 256) k j p q s ∙ ap (behind rule-size at) (sym (rule-is room at v e h a b d))
 

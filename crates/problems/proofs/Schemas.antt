@@ -64,4 +64,5 @@ schema-seen side ws at s e =
       linked = ap (λ k. sized (links k ws (at + 1))) p ∙ ap sized (b .1) ∙ ap (λ l. Ok (length l)) (sym q);
       few-kinds = rw p (schema-told side ws at (a .0) (a .1) .few);
       few-links = rw q (items-length one-word (λ room p. starts tag.Link ws p) (link (a .0) ws) 64 (at + 1) (b .0) (b .1));
-      placed = refl })
+      placed = refl;
+    })

@@ -52,7 +52,7 @@ places-length size (x ∷ xs) at = ap suc (places-length size xs (at + size x))
 
 -- what is read at each place is the token of the item that stands there
 by-places : {X : Type 0} (size : X → ℕ) (ws : List ℕ) (at i : ℕ) (xs : List X) (t : Shown) → (i < length xs → token ws (getD (places size at xs) i 0) ≡ Ok t)
-  → token-in ws (places size at xs) i ≡ cond (ltb i (length xs)) (Some t) None
+    → token-in ws (places size at xs) i ≡ cond (ltb i (length xs)) (Some t) None
 by-places size ws at i xs t each =
     ap (λ n. cond (ltb i n) (unless-refused (token ws (getD (places size at xs) i 0))) None) (places-length size xs at) ∙ by (ltb i (length xs)) refl
   where
@@ -62,12 +62,12 @@ by-places size ws at i xs t each =
 
 module _ (ws : List ℕ) (p : Problem) (e : read ws ≡ Ok p) (i : ℕ) where
   rule-there : i < length (p .rules) → token ws (getD (places rule-size (rules-at p) (p .rules)) i 0)
-    ≡ Ok (rule (getD (p .rules) i no-rule .first) (map (tagged tag.Step) (getD (p .rules) i no-rule .left)) (map (tagged tag.Step) (getD (p .rules) i no-rule .right)) (getD (places rule-size (rules-at p) (p .rules)) i 0))
+      ≡ Ok (rule (getD (p .rules) i no-rule .first) (map (tagged tag.Step) (getD (p .rules) i no-rule .left)) (map (tagged tag.Step) (getD (p .rules) i no-rule .right)) (getD (places rule-size (rules-at p) (p .rules)) i 0))
   rule-there h =
       let q = getD (places rule-size (rules-at p) (p .rules)) i 0 in
       let r = getD (p .rules) i no-rule in
       let s = rule-told (p .target-kinds) (p .target-links) ws (128 - i) q r
-        (items-at rule-size (λ room q. starts tag.Rule ws q) (problem.rule (p .target-kinds) (p .target-links) ws) 128 (rules-at p) i (p .rules) no-rule (problem-told ws p e .ruled) h) in
+      (items-at rule-size (λ room q. starts tag.Rule ws q) (problem.rule (p .target-kinds) (p .target-links) ws) 128 (rules-at p) i (p .rules) no-rule (problem-told ws p e .ruled) h) in
       let g = s .good in
       let few = read-layout ws p e .1 .target .few in
       let v = r .first * 65536 + length (r .left) * 256 + length (r .right) in
@@ -78,7 +78,7 @@ module _ (ws : List ℕ) (p : Problem) (e : read ws ≡ Ok p) (i : ℕ) where
       ∙ ap (λ f. Ok (rule f (map (tagged tag.Step) (r .left)) (map (tagged tag.Step) (r .right)) q)) vf
 
   map-there : i < length (p .link-map) → token ws (getD (places path-size (maps-at p) (p .link-map)) i 0)
-    ≡ Ok (link-map i (map (tagged tag.Step) (getD (p .link-map) i [])) (getD (places path-size (maps-at p) (p .link-map)) i 0))
+      ≡ Ok (link-map i (map (tagged tag.Step) (getD (p .link-map) i [])) (getD (places path-size (maps-at p) (p .link-map)) i 0))
   map-there h =
       let ss = p .source-links in
       let km = p .kind-map in
@@ -89,7 +89,7 @@ module _ (ws : List ℕ) (p : Problem) (e : read ws ≡ Ok p) (i : ℕ) where
       let q = getD (places path-size (maps-at p) (p .link-map)) i 0 in
       let g = getD (p .link-map) i [] in
       let s = map-told ss km ts ws i (length ss - i) q g (omega arith)
-        (items-at path-size (λ left q. ltb 0 left) (problem.link-mapped ss km ts ws) (length ss) (maps-at p) i (p .link-map) [] (problem-told ws p e .linked) h) in
+      (items-at path-size (λ left q. ltb 0 left) (problem.link-mapped ss km ts ws) (length ss) (maps-at p) i (p .link-map) [] (problem-told ws p e .linked) h) in
       let short = s .good .short in
       let v = i * 256 + length g in
       let vi : v / 256 ≡ i = omega arith in

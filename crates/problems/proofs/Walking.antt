@@ -26,8 +26,8 @@ module _ (ts : List Link) (ws : List ℕ) where
       let s = path-split ts ws n kind p x e in
       let q : p + 1 + n ≡ p + suc n = omega arith in
       rw (s .4, ← q) (join ws p (p + 1) (p + 1 + n) (tagged tag.Step (s .0) ∷ []) (map (tagged tag.Step) (s .1 .0))
-        (stood-stands tag.Step ws p (s .0) (word-told tag.Step ws p (s .0) (step-told ts ws kind p (s .0) (s .2) .0)))
-        (path-stands n (getD ts (s .0) no-link .to) (p + 1) (s .1) (s .3)))
+      (stood-stands tag.Step ws p (s .0) (word-told tag.Step ws p (s .0) (step-told ts ws kind p (s .0) (s .2) .0)))
+      (path-stands n (getD ts (s .0) no-link .to) (p + 1) (s .1) (s .3)))
 
   pub path-walks : (n kind p : ℕ) (x : List ℕ × ℕ) → path ts ws n kind p ≡ Ok x → Walks ts kind (x .0) (x .1)
   path-walks zero kind p x e = let h : x ≡ ([], kind) = cc in rw h refl

@@ -27,10 +27,10 @@ schema-words side k ls = tagged tag.Schema (side * 256 + k) ∷ joined link-word
 
 abbrev pub before-end : Problem → List ℕ
 before-end p =
-  schema-words 0 (p .source-kinds) (p .source-links)
-  ++ (schema-words 1 (p .target-kinds) (p .target-links)
-  ++ (joined rule-words (p .rules)
-  ++ (numbered kind-words 0 (p .kind-map) ++ numbered map-words 0 (p .link-map))))
+    schema-words 0 (p .source-kinds) (p .source-links)
+    ++ (schema-words 1 (p .target-kinds) (p .target-links)
+    ++ (joined rule-words (p .rules)
+    ++ (numbered kind-words 0 (p .kind-map) ++ numbered map-words 0 (p .link-map))))
 
 abbrev pub layout : Problem → List ℕ
 layout p = before-end p ++ tagged tag.End (length (before-end p)) ∷ []

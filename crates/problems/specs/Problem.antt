@@ -38,7 +38,7 @@ no-link = record { from = 0; to = 0 }
 -- the kinds of a schema whose word has those fields
 abbrev pub schema-of : ℕ → ℕ → ℕ → Result ℕ SchemaFault
 schema-of side at v =
-  cond (eqb (v / 256) side)
+    cond (eqb (v / 256) side)
     (cond (ltb 0 (v % 256) && leb (v % 256) 32) (Ok (v % 256)) (Err (Words (Limit at))))
     (Err (Words (Wrong at)))
 
@@ -47,7 +47,7 @@ schema side ws at = then (worded (word tag.Schema ws at)) (schema-of side at)
 
 abbrev pub link-of : ℕ → ℕ → ℕ → ℕ → Result Link SchemaFault
 link-of kinds room at v =
-  cond (eqb room 0) (Err (Words (Limit at)))
+    cond (eqb room 0) (Err (Words (Limit at)))
     (cond (ltb (v / 256) kinds && ltb (v % 256) kinds) (Ok (record { from = v / 256; to = v % 256 })) (Err (Unknown at)))
 
 abbrev pub link : ℕ → List ℕ → ℕ → ℕ → Result Link SchemaFault
@@ -70,7 +70,7 @@ step ts ws kind at = then (worded (word tag.Step ws at)) (step-of ts kind at)
 abbrev pub path : List Link → List ℕ → ℕ → ℕ → ℕ → Result (List ℕ × ℕ) SchemaFault
 path ts ws zero kind at = Ok ([], kind)
 path ts ws (suc n) kind at =
-  then (step ts ws kind at) (λ g. then (path ts ws n (getD ts g no-link .to) (at + 1)) (λ x. Ok (g ∷ x .0, x .1)))
+    then (step ts ws kind at) (λ g. then (path ts ws n (getD ts g no-link .to) (at + 1)) (λ x. Ok (g ∷ x .0, x .1)))
 
 -- two paths that end at one kind
 abbrev pub meeting : ℕ → ℕ → List ℕ × ℕ → List ℕ × ℕ → Result Rule SchemaFault
@@ -78,11 +78,11 @@ meeting first at l r = cond (eqb (l .1) (r .1)) (Ok (record { first = first; lef
 
 abbrev pub paths : List Link → List ℕ → ℕ → ℕ → ℕ → ℕ → Result Rule SchemaFault
 paths ts ws at first n m =
-  then (path ts ws n first (at + 1)) (λ l. then (path ts ws m first (at + 1 + n)) (meeting first (at + n + m) l))
+    then (path ts ws n first (at + 1)) (λ l. then (path ts ws m first (at + 1 + n)) (meeting first (at + n + m) l))
 
 abbrev pub rule-of : ℕ → List Link → List ℕ → ℕ → ℕ → ℕ → Result Rule SchemaFault
 rule-of kinds ts ws room at v =
-  cond (eqb room 0 || (ltb 64 (v / 256 % 256) || ltb 64 (v % 256))) (Err (Words (Limit at)))
+    cond (eqb room 0 || (ltb 64 (v / 256 % 256) || ltb 64 (v % 256))) (Err (Words (Limit at)))
     (cond (ltb (v / 65536) kinds) (paths ts ws at (v / 65536) (v / 256 % 256) (v % 256)) (Err (Unknown at)))
 
 abbrev pub rule : ℕ → List Link → List ℕ → ℕ → ℕ → Result Rule SchemaFault
@@ -118,10 +118,10 @@ arriving stop at x = cond (eqb (x .1) stop) (Ok (x .0)) (Err (Unjoined at))
 -- the link map of a source link, which is the length of ss less those left
 abbrev pub map-of : List Link → List ℕ → List Link → List ℕ → ℕ → ℕ → ℕ → Result (List ℕ) SchemaFault
 map-of ss km ts ws left at v =
-  cond (ltb 64 (v % 256)) (Err (Words (Limit at)))
+    cond (ltb 64 (v % 256)) (Err (Words (Limit at)))
     (cond (eqb (v / 256 + left) (length ss))
-      (then (path ts ws (v % 256) (begins ss km (v / 256)) (at + 1)) (arriving (stops ss km (v / 256)) (at + v % 256)))
-      (Err (Unknown at)))
+    (then (path ts ws (v % 256) (begins ss km (v / 256)) (at + 1)) (arriving (stops ss km (v / 256)) (at + v % 256)))
+    (Err (Unknown at)))
 
 abbrev pub link-mapped : List Link → List ℕ → List Link → List ℕ → ℕ → ℕ → Result (List ℕ) SchemaFault
 link-mapped ss km ts ws left at = then (worded (word tag.LinkMap ws at)) (map-of ss km ts ws left at)
@@ -139,11 +139,11 @@ whole-schema side ws at = then (schema side ws at) (λ k. then (links k ws (at +
 -- what is left to read behind the link maps, the kind maps, the rules, the schemas
 abbrev pub behind-maps : List ℕ → ℕ × List Link → ℕ × List Link → List Rule → List ℕ → List (List ℕ) → ℕ → Result Problem SchemaFault
 behind-maps ws s t rs km lm at =
-  then (worded (end ws at)) (λ _. Ok (record { source-kinds = s .0; source-links = s .1; target-kinds = t .0; target-links = t .1; rules = rs; kind-map = km; link-map = lm }))
+    then (worded (end ws at)) (λ _. Ok (record { source-kinds = s .0; source-links = s .1; target-kinds = t .0; target-links = t .1; rules = rs; kind-map = km; link-map = lm }))
 
 abbrev pub behind-kinds : List ℕ → ℕ × List Link → ℕ × List Link → List Rule → ℕ → List ℕ → Result Problem SchemaFault
 behind-kinds ws s t rs at km =
-  then (link-maps (s .1) km (t .1) ws (at + sizes one-word km)) (λ lm. behind-maps ws s t rs km lm (at + sizes one-word km + sizes path-size lm))
+    then (link-maps (s .1) km (t .1) ws (at + sizes one-word km)) (λ lm. behind-maps ws s t rs km lm (at + sizes one-word km + sizes path-size lm))
 
 abbrev pub behind-rules : List ℕ → ℕ × List Link → ℕ × List Link → ℕ → List Rule → Result Problem SchemaFault
 behind-rules ws s t at rs = then (kind-maps (s .0) (t .0) ws (at + sizes rule-size rs)) (behind-kinds ws s t rs (at + sizes rule-size rs))
@@ -154,6 +154,6 @@ behind-schemas ws s t at = then (rules (t .0) (t .1) ws at) (behind-rules ws s t
 -- a problem file
 abbrev pub read : List ℕ → Result Problem SchemaFault
 read ws =
-  then (whole-schema 0 ws 0) (λ s.
+    then (whole-schema 0 ws 0) (λ s.
     then (whole-schema 1 ws (1 + length (s .1))) (λ t.
-      behind-schemas ws s t (1 + length (s .1) + 1 + length (t .1))))
+    behind-schemas ws s t (1 + length (s .1) + 1 + length (t .1))))

@@ -42,7 +42,7 @@ maps-at p = rules-at p + sizes rule-size (p .rules) + sizes one-word (p .kind-ma
 -- the token of the i-th rule: its first kind, the words of its steps, its place
 abbrev pub rule-token : Result Problem SchemaFault → ℕ → Option Shown
 rule-token (Ok p) i =
-  cond (ltb i (length (p .rules)))
+    cond (ltb i (length (p .rules)))
     (Some (rule (getD (p .rules) i no-rule .first) (map (tagged tag.Step) (getD (p .rules) i no-rule .left)) (map (tagged tag.Step) (getD (p .rules) i no-rule .right)) (getD (places rule-size (rules-at p) (p .rules)) i 0)))
     None
 rule-token (Err e) i = None
@@ -50,7 +50,7 @@ rule-token (Err e) i = None
 -- the token of the link map of the i-th source link
 abbrev pub map-token : Result Problem SchemaFault → ℕ → Option Shown
 map-token (Ok p) i =
-  cond (ltb i (length (p .link-map)))
+    cond (ltb i (length (p .link-map)))
     (Some (link-map i (map (tagged tag.Step) (getD (p .link-map) i [])) (getD (places path-size (maps-at p) (p .link-map)) i 0)))
     None
 map-token (Err e) i = None

@@ -1,3 +1,4 @@
+// The reader of problem files: two schemas, rules, kind maps and link maps.
 ghost use mathlib.Core.Path.{_≡_};
 ghost use Prim.Native.Nat.{_+_, _-_, _/_, _%_, _<_, _≤_};
 ghost use lib.ListN.{length, getD, take};
@@ -23,8 +24,11 @@ use words::tokens::token_at;
 
 // How many kinds and links a schema may have, rules a problem, and steps a path.
 const KINDS: u32 = 32;
+
 const LINKS: usize = 64;
+
 const RULES: usize = 128;
+
 const STEPS: u32 = 64;
 
 // The kinds of the schema of a side.
@@ -162,7 +166,11 @@ fn rules(words: &[u32], schema: Schema, start: usize) -> Result<RulePlaces, Sche
         count += 1;
         at = next;
     }
-    Ok(RulePlaces { count, places, next: at })
+    Ok(RulePlaces {
+        count,
+        places,
+        next: at,
+    })
 }
 
 // The kind map of a source kind, with that many left; tells the place behind it.
@@ -198,7 +206,14 @@ fn mapped(words: &[u32], n: u32, kinds: u32, start: usize, kind: u32) -> u32
 }
 
 // The link map of a source link, with that many left; tells the place behind it.
-fn link_map(words: &[u32], source: Schema, target: Schema, maps: usize, left: usize, at: usize) -> Result<usize, SchemaFault>
+fn link_map(
+    words: &[u32],
+    source: Schema,
+    target: Schema,
+    maps: usize,
+    left: usize,
+    at: usize,
+) -> Result<usize, SchemaFault>
     requires { ⌜ Linked (source .kinds) (now words) (source .place) (source .links) ⌝ ∗ ⌜ Linked (target .kinds) (now words) (target .place) (target .links) ⌝
         ∗ ⌜ Mapped (source .kinds) (target .kinds) (now words) maps ⌝ ∗ ⌜ 0 < left ⌝ ∗ ⌜ left ≤ 64 ⌝ }
     ensures { λ r. ⌜ r ≡ behind path-size at (link-mapped (links-got (source .kinds) (now (words .entry)) (source .place)) (kinds-got (source .kinds) (target .kinds) (now (words .entry)) maps) (links-got (target .kinds) (now (words .entry)) (target .place)) (now (words .entry)) left at) ⌝ }
@@ -229,7 +244,13 @@ struct MapPlaces {
     next: usize,
 }
 
-fn link_maps(words: &[u32], source: Schema, target: Schema, maps: usize, start: usize) -> Result<MapPlaces, SchemaFault>
+fn link_maps(
+    words: &[u32],
+    source: Schema,
+    target: Schema,
+    maps: usize,
+    start: usize,
+) -> Result<MapPlaces, SchemaFault>
     requires { ⌜ Linked (source .kinds) (now words) (source .place) (source .links) ⌝ ∗ ⌜ Linked (target .kinds) (now words) (target .place) (target .links) ⌝
         ∗ ⌜ Mapped (source .kinds) (target .kinds) (now words) maps ⌝ ∗ ⌜ source .links ≤ 64 ⌝ }
     ensures { λ r. ⌜ shown-maps (source .links) r ≡ outlined path-size start (link-maps (links-got (source .kinds) (now (words .entry)) (source .place)) (kinds-got (source .kinds) (target .kinds) (now (words .entry)) maps) (links-got (target .kinds) (now (words .entry)) (target .place)) (now (words .entry)) start) ⌝ }
@@ -250,7 +271,11 @@ fn schema_at(words: &[u32], side: u32, at: usize) -> Result<Schema, SchemaFault>
 {
     let kinds = schema_kinds(words, side, at)?;
     let links = links(words, kinds, at + 1)?;
-    Ok(Schema { kinds, links, place: at + 1 })
+    Ok(Schema {
+        kinds,
+        links,
+        place: at + 1,
+    })
 }
 
 // A problem file that was read through: its schemas, and where its rules and maps stand.
@@ -279,7 +304,14 @@ fn rest(words: &[u32], source: Schema, target: Schema, start: usize) -> Result<F
     let count = found.count;
     let rule_places = found.places;
     let map_places = links.places;
-    Ok(Found { source, target, rules: count, rule_places, maps, map_places })
+    Ok(Found {
+        source,
+        target,
+        rules: count,
+        rule_places,
+        maps,
+        map_places,
+    })
 }
 
 // The parts of a problem file, one after another.

@@ -14,7 +14,7 @@ use Rattle.words.specs.Words.{word, worded, tag, fields}
 use Rattle.words.specs.Register.{count, counted}
 use Rattle.words.specs.declared.tags.Tag.the-variants as tag
 
-pub size-fits : (t : Tag) → size t ≤ 268435456
+size-fits : (t : Tag) → size t ≤ 268435456
 size-fits tag.Schema = lit≤ tt
 size-fits tag.Link = lit≤ tt
 size-fits tag.Rule = lit≤ tt

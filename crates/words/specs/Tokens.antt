@@ -59,7 +59,7 @@ tag-in n (t ∷ ts) = cond (eqb n (number t)) (Some t) (tag-in n ts)
 
 abbrev pub tag-of : ℕ → Option Tag
 tag-of n =
-  tag-in n (tag.Schema ∷ tag.Link ∷ tag.Rule ∷ tag.Step ∷ tag.KindMap ∷ tag.LinkMap ∷ tag.End ∷ tag.Register ∷ tag.Count ∷ tag.RegisterLink ∷ tag.Record ∷ tag.Landings ∷ tag.Fault ∷ [])
+    tag-in n (tag.Schema ∷ tag.Link ∷ tag.Rule ∷ tag.Step ∷ tag.KindMap ∷ tag.LinkMap ∷ tag.End ∷ tag.Register ∷ tag.Count ∷ tag.RegisterLink ∷ tag.Record ∷ tag.Landings ∷ tag.Fault ∷ [])
 
 -- the part of the words that begins at a place
 abbrev pub part : List ℕ → ℕ → ℕ → List ℕ
@@ -74,7 +74,7 @@ abbrev pub token-of : Tag → List ℕ → ℕ → ℕ → Result Shown WordFaul
 token-of tag.Schema ws at v = Ok (schema (v / 256) (v % 256))
 token-of tag.Link ws at v = Ok (link (v / 256) (v % 256))
 token-of tag.Rule ws at v =
-  within ws (at + 1 + v / 256 % 256 + v % 256) (rule (v / 65536) (part ws (at + 1) (v / 256 % 256)) (part ws (at + 1 + v / 256 % 256) (v % 256)) at)
+    within ws (at + 1 + v / 256 % 256 + v % 256) (rule (v / 65536) (part ws (at + 1) (v / 256 % 256)) (part ws (at + 1 + v / 256 % 256) (v % 256)) at)
 token-of tag.Step ws at v = Ok (step v)
 token-of tag.KindMap ws at v = Ok (kind-map (v / 256) (v % 256))
 token-of tag.LinkMap ws at v = within ws (at + 1 + v % 256) (link-map (v / 256) (part ws (at + 1) (v % 256)) at)

@@ -3,7 +3,6 @@ ghost use mathlib.Core.Path.{_≡_};
 ghost use Prim.Native.Nat.{_<_};
 ghost use lib.ListN.{length};
 ghost use Rattle.words.specs.Tokens.{tag-of, told as toldOf, token-of, token as tokenOf};
-
 use crate::faults::WordFault;
 use crate::reading::word;
 use crate::tags::Tag;
@@ -11,19 +10,48 @@ use crate::tags::Tag;
 // One token for each layout of a word. A path is the part of the words that holds its steps.
 #[derive(Clone, Copy)]
 pub enum Token<'a> {
-    Schema { side: u32, kinds: u32 },
-    Link { from: u32, to: u32 },
-    Rule { first: u32, left: &'a [u32], right: &'a [u32], place: usize },
+    Schema {
+        side: u32,
+        kinds: u32,
+    },
+    Link {
+        from: u32,
+        to: u32,
+    },
+    Rule {
+        first: u32,
+        left: &'a [u32],
+        right: &'a [u32],
+        place: usize,
+    },
     Step(u32),
-    KindMap { source: u32, target: u32 },
-    LinkMap { link: u32, path: &'a [u32], place: usize },
+    KindMap {
+        source: u32,
+        target: u32,
+    },
+    LinkMap {
+        link: u32,
+        path: &'a [u32],
+        place: usize,
+    },
     End(u32),
     Register(u32),
     Count(u32),
-    RegisterLink { from: u32, to: u32 },
+    RegisterLink {
+        from: u32,
+        to: u32,
+    },
     Record(u32),
-    Landings { records: u32, source: u32, target: u32 },
-    Fault { layer: u32, number: u32, place: u32 },
+    Landings {
+        records: u32,
+        source: u32,
+        target: u32,
+    },
+    Fault {
+        layer: u32,
+        number: u32,
+        place: u32,
+    },
 }
 
 // The tag of a number.
@@ -61,7 +89,12 @@ fn rule_token<'a>(words: &'a [u32], at: usize, v: u32) -> Result<Token<'a>, Word
     }
     let left = &words[start..start + n];
     let right = &words[start + n..start + n + m];
-    Ok(Token::Rule { first: v / 65536, left, right, place: at })
+    Ok(Token::Rule {
+        first: v / 65536,
+        left,
+        right,
+        place: at,
+    })
 }
 
 // A link map and its path, if all its words are there.
@@ -75,7 +108,11 @@ fn map_token<'a>(words: &'a [u32], at: usize, v: u32) -> Result<Token<'a>, WordF
         return Err(WordFault::Missing(words.len()));
     }
     let path = &words[start..start + n];
-    Ok(Token::LinkMap { link: v / 256, path, place: at })
+    Ok(Token::LinkMap {
+        link: v / 256,
+        path,
+        place: at,
+    })
 }
 
 // The token of a tag with those fields.
@@ -84,19 +121,39 @@ fn fields_token<'a>(words: &'a [u32], at: usize, tag: Tag, v: u32) -> Result<Tok
     ensures { λ r. ⌜ toldOf r ≡ token-of tag (now (words .entry)) at v ⌝ }
 {
     match tag {
-        Tag::Schema => Ok(Token::Schema { side: v / 256, kinds: v % 256 }),
-        Tag::Link => Ok(Token::Link { from: v / 256, to: v % 256 }),
+        Tag::Schema => Ok(Token::Schema {
+            side: v / 256,
+            kinds: v % 256,
+        }),
+        Tag::Link => Ok(Token::Link {
+            from: v / 256,
+            to: v % 256,
+        }),
         Tag::Rule => rule_token(words, at, v),
         Tag::Step => Ok(Token::Step(v)),
-        Tag::KindMap => Ok(Token::KindMap { source: v / 256, target: v % 256 }),
+        Tag::KindMap => Ok(Token::KindMap {
+            source: v / 256,
+            target: v % 256,
+        }),
         Tag::LinkMap => map_token(words, at, v),
         Tag::End => Ok(Token::End(v)),
         Tag::Register => Ok(Token::Register(v)),
         Tag::Count => Ok(Token::Count(v)),
-        Tag::RegisterLink => Ok(Token::RegisterLink { from: v / 256, to: v % 256 }),
+        Tag::RegisterLink => Ok(Token::RegisterLink {
+            from: v / 256,
+            to: v % 256,
+        }),
         Tag::Record => Ok(Token::Record(v)),
-        Tag::Landings => Ok(Token::Landings { records: v / 65536, source: v / 256 % 256, target: v % 256 }),
-        Tag::Fault => Ok(Token::Fault { layer: v / 16777216, number: v / 65536 % 256, place: v % 65536 }),
+        Tag::Landings => Ok(Token::Landings {
+            records: v / 65536,
+            source: v / 256 % 256,
+            target: v % 256,
+        }),
+        Tag::Fault => Ok(Token::Fault {
+            layer: v / 16777216,
+            number: v / 65536 % 256,
+            place: v % 65536,
+        }),
     }
 }
 

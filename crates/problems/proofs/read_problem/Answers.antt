@@ -7,4 +7,5 @@ returns c =
     record {
       told = c .read .ensures;
       laid = answer-laid (c .args .words .now) (c .read .result) (c .read .ensures);
-      layouts = (reads-layouts, reads-once) }
+      layouts = (reads-layouts, reads-once);
+    }
