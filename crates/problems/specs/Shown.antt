@@ -40,10 +40,12 @@ told (Err e) = Err e
 
 abbrev pub outline-from : Schema → Schema → ℕ → Result Problem SchemaFault → Result Seen SchemaFault
 outline-from s t at (Ok p) = Ok (record {
-  source = s; target = t;
+  source = s;
+  target = t;
   rules = places rule-size at (p .rules);
   maps = at + sizes rule-size (p .rules);
-  link-maps = places path-size (at + sizes rule-size (p .rules) + sizes one-word (p .kind-map)) (p .link-map) })
+  link-maps = places path-size (at + sizes rule-size (p .rules) + sizes one-word (p .kind-map)) (p .link-map);
+})
 outline-from s t at (Err e) = Err e
 
 abbrev pub source-of : Problem → Schema

@@ -6,3 +6,4 @@ pub mod Laid
 pub mod Parts
 pub mod Files
 pub mod Layouts
+pub mod Tokening

@@ -7,3 +7,4 @@ pub mod Register
 pub mod Layout
 pub mod Outline
 pub mod Shown
+pub mod Tokens

@@ -3,3 +3,4 @@ pub mod faults;
 pub mod reading;
 pub mod register_file;
 pub mod tags;
+pub mod tokens;

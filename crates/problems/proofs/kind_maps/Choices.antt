@@ -1,5 +1,5 @@
 use mathlib.Core.Path.{_≡_}
-use Prim.Native.Nat.{_+_, _-_, _≤_}
+use Prim.Native.Nat.{_-_}
 use lib.Dec.{ltb}
 use Rattle.words.specs.Items.{items, ended}
 use Rattle.problems.specs.Problem.{one-word, kind-mapped, kind-maps}
