@@ -14,14 +14,14 @@ use Rattle.std.specs.declared.result.Result.the-variants.{Ok}
 use Rattle.words.specs.declared.tags.Tag.{Tag}
 use Rattle.words.specs.Words.{worded, then, starts}
 use Rattle.words.specs.Tags.{tagged, number}
-use Rattle.words.specs.Items.{sizes}
+use Rattle.words.specs.Items.{sizes, one-word}
 use Rattle.words.specs.Numbered.{numbered, Each}
 use Rattle.words.proofs.Inverse.{then-ok}
 use Rattle.words.proofs.Items.{items-length, items-full, more-one}
 use Rattle.words.proofs.Laid.{ok-same, joined-numbered, each-all, all-each, numbered-length, items-stand, items-each, items-read, end-told, end-read}
 use Rattle.words.proofs.Single.{word-told, word-read}
 use Rattle.words.proofs.Standing.{Stands, join, front, back, stood-stands, stands-stood, stands-other, whole, itself}
-use Rattle.problems.specs.Problem.{Link, Rule, Problem, schema-of, schema, link, links, rule, rule-size, one-word, path-size, whole-schema, kind-mapped, link-mapped, read}
+use Rattle.problems.specs.Problem.{Link, Rule, Problem, schema-of, schema, link, links, rule, rule-size, path-size, whole-schema, kind-mapped, link-mapped, read}
 use Rattle.problems.specs.Layout.{link-words, rule-words, kind-words, map-words, schema-words, before-end, layout, Good-link, Good-schema, Good-rule, Good-map, Well-formed, Reads-layouts, Reads-once}
 use Rattle.problems.proofs.Schemas.{schema-told}
 use Rattle.problems.proofs.Mapping.{kind-told, maps-length}

@@ -12,11 +12,11 @@ use Rattle.words.specs.declared.faults.SchemaFault.the-variants.{Unknown, Unjoi
 use Rattle.words.specs.Words.{word, worded, then}
 use Rattle.words.proofs.Inverse.{then-ok, worded-ok, if-ok}
 use Rattle.words.proofs.Single.{word-told}
-use Rattle.words.specs.Items.{behind}
-use Rattle.problems.specs.Problem.{Link, one-word, path, kind-of, kind-mapped, kind-maps, begins, stops, arriving, map-of, link-mapped, path-size}
+use Rattle.words.specs.Items.{behind, one-word}
+use Rattle.problems.specs.Problem.{Link, path, kind-of, kind-mapped, kind-maps, begins, stops, arriving, map-of, link-mapped, path-size}
 use Rattle.problems.specs.Seen.{reached, Mapped, kinds-got}
-use Rattle.words.proofs.Items.{items-at, items-full, more-one}
-use Rattle.problems.proofs.Paths.{path-length, reached-ok, places-one, both}
+use Rattle.words.proofs.Items.{items-at, items-full, more-one, places-one}
+use Rattle.problems.proofs.Paths.{path-length, reached-ok, both}
 use Rattle.words.specs.declared.tags.Tag.the-variants as tag
 
 pub record Kind-read (n kinds : ℕ) (ws : List ℕ) (left at k : ℕ) : Type 0 where

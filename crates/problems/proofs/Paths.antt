@@ -15,10 +15,10 @@ use Rattle.words.specs.declared.faults.SchemaFault.the-variants.{Words, Unknown
 use Rattle.words.specs.Words.{word, worded, then, starts}
 use Rattle.words.proofs.Inverse.{err-ok, then-ok, worded-ok, if-ok, else-ok}
 use Rattle.words.proofs.Single.{word-told}
-use Rattle.words.specs.Items.{sized, got, places}
-use Rattle.problems.specs.Problem.{Link, no-link, one-word, link-of, link, links, step-of, step, path}
+use Rattle.words.specs.Items.{sized, got, places, one-word}
+use Rattle.problems.specs.Problem.{Link, no-link, link-of, link, links, step-of, step, path}
 use Rattle.problems.specs.Seen.{Linked, links-got, reached}
-use Rattle.words.proofs.Items.{items-at}
+use Rattle.words.proofs.Items.{items-at, places-one}
 use Rattle.words.specs.declared.tags.Tag.the-variants as tag
 
 pub got-known : {A E : Type 0} (r : Result (List A) E) (n : ℕ) → sized r ≡ Ok n → (r ≡ Ok (got r)) × (length (got r) ≡ n)
@@ -55,11 +55,6 @@ link-told kinds ws room at l e =
       from-known = rw p (grind (arith, tells));
       to-known = rw t (grind (arith, tells));
     }
-
-pub places-one : {X : Type 0} (xs : List X) (at g : ℕ) → g < length xs → getD (places one-word at xs) g 0 ≡ at + g
-places-one [] at g h = absurd (omega arith)
-places-one (x ∷ xs) at zero h = omega arith
-places-one (x ∷ xs) at (suc g) h = let k = places-one xs (at + 1) g (omega arith) in k ∙ omega arith
 
 -- each link stands at its place
 pub link-at : (kinds : ℕ) (ws : List ℕ) (at n g : ℕ) → Linked kinds ws at n → g < n

@@ -9,9 +9,9 @@ use Rattle.std.specs.declared.result.Result.the-variants.{Ok}
 use Rattle.words.specs.Words.{worded, then}
 use Rattle.words.specs.Register.{end}
 use Rattle.words.proofs.Inverse.{then-ok, worded-ok}
-use Rattle.words.specs.Items.{sizes}
+use Rattle.words.specs.Items.{sizes, one-word}
 use Rattle.words.proofs.Laid.{ok-same}
-use Rattle.problems.specs.Problem.{Link, Problem, rules, rule-size, one-word, path-size, whole-schema, kind-maps, link-maps, behind-schemas, behind-rules, behind-kinds, behind-maps, read}
+use Rattle.problems.specs.Problem.{Link, Problem, rules, rule-size, path-size, whole-schema, kind-maps, link-maps, behind-schemas, behind-rules, behind-kinds, behind-maps, read}
 
 pub record Problem-read (ws : List ℕ) (p : Problem) : Type 0 where
   pub sourced : whole-schema 0 ws 0 ≡ Ok (p .source-kinds, p .source-links)

@@ -15,8 +15,8 @@ use Rattle.words.specs.declared.faults.SchemaFault.the-variants.{Words}
 use Rattle.words.specs.Words.{word, worded, then, starts}
 use Rattle.words.proofs.Inverse.{err-ok, then-ok, worded-ok, if-ok}
 use Rattle.problems.specs.declared.Schema.{Schema}
-use Rattle.words.specs.Items.{sized}
-use Rattle.problems.specs.Problem.{Link, schema-of, schema, link, links, one-word, whole-schema}
+use Rattle.words.specs.Items.{sized, one-word}
+use Rattle.problems.specs.Problem.{Link, schema-of, schema, link, links, whole-schema}
 use Rattle.problems.specs.Seen.{Linked}
 use Rattle.problems.specs.Shown.{seen}
 use Rattle.words.proofs.Items.{items-length}

@@ -11,7 +11,7 @@ use Rattle.words.specs.declared.faults.SchemaFault.{SchemaFault}
 use Rattle.words.specs.declared.faults.SchemaFault.the-variants.{Words, Unknown, Unjoined}
 use Rattle.words.specs.Words.{word, starts, then, worded}
 use Rattle.words.specs.Register.{end}
-use Rattle.words.specs.Items.{items, sizes}
+use Rattle.words.specs.Items.{items, one-word, sizes}
 use Rattle.words.specs.declared.tags.Tag.the-variants as tag
 
 pub record Link : Type 0 where
@@ -52,9 +52,6 @@ link-of kinds room at v =
 
 abbrev pub link : ℕ → List ℕ → ℕ → ℕ → Result Link SchemaFault
 link kinds ws room at = then (worded (word tag.Link ws at)) (link-of kinds room at)
-
-abbrev pub one-word : {X : Type 0} → X → ℕ
-one-word x = 1
 
 abbrev pub links : ℕ → List ℕ → ℕ → Result (List Link) SchemaFault
 links kinds ws at = items one-word (λ room p. starts tag.Link ws p) (link kinds ws) 64 at

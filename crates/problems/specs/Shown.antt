@@ -10,8 +10,8 @@ use Rattle.problems.specs.declared.RulePlaces.{RulePlaces}
 use Rattle.problems.specs.declared.MapPlaces.{MapPlaces}
 use Rattle.problems.specs.declared.Schema.{Schema}
 use Rattle.problems.specs.declared.Found.{Found}
-use Rattle.words.specs.Items.{places, sizes}
-use Rattle.problems.specs.Problem.{Link, Problem, one-word, rule-size, path-size}
+use Rattle.words.specs.Items.{places, sizes, one-word}
+use Rattle.problems.specs.Problem.{Link, Problem, rule-size, path-size}
 
 abbrev pub shown : Result RulePlaces SchemaFault → Result (List ℕ × ℕ) SchemaFault
 shown (Ok l) = Ok (take (l .count) (l .places), l .next)

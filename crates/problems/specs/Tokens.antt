@@ -11,10 +11,10 @@ use Rattle.std.specs.declared.result.Result.the-variants.{Ok, Err}
 use Rattle.words.specs.declared.faults.SchemaFault.{SchemaFault}
 use Rattle.words.specs.declared.faults.WordFault.{WordFault}
 use Rattle.words.specs.declared.tokens.Token.{Token}
-use Rattle.words.specs.Items.{places, sizes}
+use Rattle.words.specs.Items.{places, sizes, one-word}
 use Rattle.words.specs.Tags.{tagged}
 use Rattle.words.specs.Tokens.{Shown, shown, rule, link-map, token}
-use Rattle.problems.specs.Problem.{Rule, Problem, one-word, rule-size, path-size}
+use Rattle.problems.specs.Problem.{Rule, Problem, rule-size, path-size}
 use Rattle.words.specs.declared.tags.Tag.the-variants as tag
 
 abbrev pub shown-token : Option Token → Option Shown
