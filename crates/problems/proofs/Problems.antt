@@ -6,8 +6,7 @@ use native.Mathlib.Omega.{arith}
 use lib.ListN.{length}
 use Rattle.std.proofs.shelf.Ways.{tells}
 use Rattle.std.specs.declared.result.Result.the-variants.{Ok}
-use Rattle.words.specs.Words.{worded, then}
-use Rattle.words.specs.Register.{end}
+use Rattle.words.specs.Words.{worded, then, end}
 use Rattle.words.proofs.Inverse.{then-ok, worded-ok}
 use Rattle.words.specs.Items.{sizes, one-word}
 use Rattle.words.proofs.Laid.{ok-same}

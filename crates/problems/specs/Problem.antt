@@ -9,8 +9,7 @@ use Rattle.std.specs.declared.result.Result.the-variants.{Ok, Err}
 use Rattle.words.specs.declared.faults.WordFault.the-variants.{Wrong, Limit}
 use Rattle.words.specs.declared.faults.SchemaFault.{SchemaFault}
 use Rattle.words.specs.declared.faults.SchemaFault.the-variants.{Words, Unknown, Unjoined}
-use Rattle.words.specs.Words.{word, starts, then, worded}
-use Rattle.words.specs.Register.{end}
+use Rattle.words.specs.Words.{word, starts, then, worded, end}
 use Rattle.words.specs.Items.{items, one-word, sizes}
 use Rattle.words.specs.declared.tags.Tag.the-variants as tag
 

@@ -9,8 +9,8 @@ use Rattle.std.specs.declared.option.Option.{Option}
 use Rattle.std.specs.declared.option.Option.the-variants.{Some, None}
 use Rattle.std.specs.declared.result.Result.{Result}
 use Rattle.std.specs.declared.result.Result.the-variants.{Ok, Err}
-use Rattle.words.specs.Register.{Row, File, read}
-use Rattle.words.specs.Layout.{layout}
+use Rattle.register_files.specs.Register.{Row, File, read}
+use Rattle.register_files.specs.Layout.{layout}
 use Rattle.registers.specs.declared.writing.WriteFault.{WriteFault}
 use Rattle.registers.specs.declared.writing.WriteFault.the-variants.{Large, Leads, Memory}
 use Rattle.registers.specs.Meaning.{Meaning, no-row, answers}

@@ -12,10 +12,9 @@ use Rattle.std.specs.shelf.Lists.{All, joined}
 use Rattle.std.specs.declared.result.Result.{Result}
 use Rattle.std.specs.declared.result.Result.the-variants.{Ok}
 use Rattle.words.specs.declared.faults.SchemaFault.{SchemaFault}
-use Rattle.words.specs.Words.{then}
+use Rattle.words.specs.Words.{then, end}
 use Rattle.words.specs.Items.{items, sizes}
 use Rattle.words.specs.Numbered.{numbered, Each}
-use Rattle.words.specs.Register.{end}
 use Rattle.words.proofs.Items.{items-zero, items-split, items-none}
 use Rattle.words.proofs.Single.{Stood, word-read}
 use Rattle.words.proofs.Standing.{Stands, none, join, front, back}
