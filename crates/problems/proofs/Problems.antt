@@ -20,8 +20,12 @@ pub record Problem-read (ws : List ℕ) (p : Problem) : Type 0 where
   pub linked : link-maps (p .source-links) (p .kind-map) (p .target-links) ws (1 + length (p .source-links) + 1 + length (p .target-links) + sizes rule-size (p .rules) + sizes one-word (p .kind-map)) ≡ Ok (p .link-map)
   pub closed : end ws (1 + length (p .source-links) + 1 + length (p .target-links) + sizes rule-size (p .rules) + sizes one-word (p .kind-map) + sizes path-size (p .link-map)) ≡ Ok (1 + length (p .source-links) + 1 + length (p .target-links) + sizes rule-size (p .rules) + sizes one-word (p .kind-map) + sizes path-size (p .link-map))
 
-end-same : (ws : List ℕ) (at q : ℕ) → end ws at ≡ Ok q → q ≡ at
-end-same ws at q e = grind (arith, tells)
+-- an end that was read tells its place
+end-closed : (ws : List ℕ) (at q : ℕ) → worded (end ws at) ≡ Ok q → end ws at ≡ Ok at
+end-closed ws at q e = let w = worded-ok (end ws at) q e in w ∙ ap Ok (same ws at q w)
+  where
+    same : (ws : List ℕ) (at q : ℕ) → end ws at ≡ Ok q → q ≡ at
+    same ws at q e = grind (arith, tells)
 
 pub problem-told : (ws : List ℕ) (p : Problem) → read ws ≡ Ok p → Problem-read ws p
 problem-told ws p e =
@@ -41,7 +45,7 @@ problem-told ws p e =
       ruled = r .1;
       kinded = k .1;
       linked = l .1;
-      closed = let w = worded-ok (end ws (a3 + sizes path-size (l .0))) (d .0) (d .1) in w ∙ ap Ok (end-same ws (a3 + sizes path-size (l .0)) (d .0) w);
+      closed = end-closed ws (a3 + sizes path-size (l .0)) (d .0) (d .1);
     })
 
 pub problem-made : (ws : List ℕ) (p : Problem) → Problem-read ws p → read ws ≡ Ok p
