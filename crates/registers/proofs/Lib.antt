@@ -1,2 +1,5 @@
 pub mod Answering
 pub mod Wheels
+pub mod WrittenLists
+pub mod WrittenSplices
+pub mod WrittenFiles
