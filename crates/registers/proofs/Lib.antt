@@ -3,3 +3,4 @@ pub mod Wheels
 pub mod WrittenLists
 pub mod WrittenSplices
 pub mod WrittenFiles
+pub mod WrittenBack

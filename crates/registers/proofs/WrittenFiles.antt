@@ -1,26 +1,23 @@
 -- A register that passes the tests: its file is well-formed and has its meaning.
-use mathlib.Core.Path.{_≡_, refl, sym, ap, subst, _∙_, fun-ext}
-use mathlib.Core.Bool.{Bool, true, false, cond, not, _&&_, _||_}
-use mathlib.Core.List.{List, []}
+use mathlib.Core.Path.{_≡_, refl, sym, ap, subst, _∙_}
+use mathlib.Core.Bool.{true, false, cond, not, _&&_, _||_}
 use mathlib.Core.Logic.{⊎-elim}
 use Prim.Native.Nat.{ℕ, zero, suc, _+_, _*_, _<_, _≤_}
 use native.Mathlib.Omega.{arith}
 use lib.Dec.{ltb}
 use lib.ListN.{length, getD}
 use Rattle.std.specs.Options.{valueOr}
-use Rattle.std.specs.shelf.Lists.{All}
-use Rattle.std.proofs.shelf.Elements.{all-getD}
 use Rattle.std.proofs.shelf.Lists.{getD-past}
-use Rattle.std.proofs.shelf.Tests.{false≢true, not-false, not-from-true, not-from-false, ltb-true, ltb-false, lt-ltb, le-ltb, and-parts, and-from, or-parts, or-from, cases-lt, cond-true, cond-false}
+use Rattle.std.proofs.shelf.Tests.{false≢true, not-false, not-from-true, ltb-true, ltb-false, lt-ltb, le-ltb, and-parts, and-from, or-parts, or-from, cases-lt, cond-true, cond-false}
 use Rattle.std.specs.declared.option.Option.{Option}
 use Rattle.std.specs.declared.option.Option.the-variants.{Some, None}
-use Rattle.words.specs.Register.{Row, File}
+use Rattle.words.specs.Register.{Row}
 use Rattle.words.specs.Layout.{Good-link, Well-formed}
 use Rattle.registers.specs.Meaning.{Meaning, Lawful, no-row, row-at, answers}
-use Rattle.registers.specs.Writing.{upto, some-below, lowest, crowded, large, astray, strays, broken-by, broken, lead, row-by, row-of, file-of}
+use Rattle.registers.specs.Writing.{upto, lowest, crowded, large, astray, strays, broken-by, broken, lead, row-by, row-of, file-of}
 use Rattle.registers.specs.Splices.{Leads-fit, Writable, row-words, links-words}
-use Rattle.registers.proofs.WrittenLists.{none-told, none-from, lowest-told, lowest-from, upto-length, upto-at, upto-all, upto-same}
-use Rattle.registers.proofs.WrittenSplices.{row-length, links-step}
+use Rattle.registers.proofs.WrittenLists.{none-told, none-from, lowest-told, upto-length, upto-at, upto-all}
+use Rattle.registers.proofs.WrittenSplices.{row-length, links-none, links-step}
 
 -- a link that is not broken
 pub record Joined (m : Meaning) (l from to : ℕ) : Type 0 where
@@ -53,7 +50,7 @@ module _ (m : Meaning) (l : ℕ) where
         to-known = ltb-true _ _ (k .1);
         leads = λ r q. astray-told (m .count to) (m .follow l r) (none-told (λ j. astray (m .count to) (m .follow l j)) (m .count from) (h .1) r q) }
 
-  link-made : (from to : ℕ) → Some (from, to) ≡ m .ends l → Joined m l from to → broken m l ≡ false
+  pub link-made : (from to : ℕ) → Some (from, to) ≡ m .ends l → Joined m l from to → broken m l ≡ false
   link-made from to e j =
       sym (ap (broken-by m l) e)
       ∙ or-from _ _ (not-from-true _ (and-from _ _ (lt-ltb from (m .kinds) (j .from-known)) (lt-ltb to (m .kinds) (j .to-known))))
@@ -83,11 +80,11 @@ module _ (m : Meaning) (w : Writable m) (l from to : ℕ) (h : l < m .links) (e 
   row-fits : length (row-words m l) ≤ 65536
   row-fits = let j = joined-here in omega (arith, row-length m l from to e, w .small from (j .from-known))
 
-pub ends-never : (m : Meaning) → Writable m → (l : ℕ) → l < m .links → None ≡ m .ends l → ⊥
-ends-never m w l h e = false≢true (sym (ap (broken-by m l) e ∙ w .unbroken l h))
-
 pub links-fit : (m : Meaning) → Writable m → (n : ℕ) → n ≤ m .links → length (links-words m n) ≤ n * 65536
-links-fit m w n h = ?
+links-fit m w zero h = rw (links-none m) (omega arith)
+links-fit m w (suc n) h =
+    let t = ends-told m n (w .unbroken n (omega arith)) in
+    omega (arith, links-step m n, row-fits m w n (t .0) (t .1) (omega arith) (t .2), links-fit m w n (omega arith))
 
 -- two meanings with the same answers
 same-meaning : (a b : Meaning) → a .kinds ≡ b .kinds → a .links ≡ b .links → ((l : ℕ) → a .ends l ≡ b .ends l) → ((k : ℕ) → a .count k ≡ b .count k)

@@ -13,8 +13,7 @@ use Rattle.std.proofs.shelf.Tests.{cases-lt}
 use Rattle.std.specs.declared.option.Option.the-variants.{Some, None}
 use Rattle.words.specs.declared.tags.Tag.{Tag}
 use Rattle.words.specs.declared.tags.Tag.the-variants as tag
-use Rattle.words.specs.declared.tags.Tag.the-variants.{Schema, Link, Rule, Step, KindMap, LinkMap, End, Register, Count, RegisterLink, Record, Landings, Fault}
-use Rattle.words.specs.Tags.{tagged, number}
+use Rattle.words.specs.Tags.{tagged}
 use Rattle.words.specs.Layout.{link-words, before-end, layout}
 use Rattle.registers.specs.Meaning.{Meaning}
 use Rattle.registers.specs.Writing.{upto, lead, row-by, row-of, file-of}
@@ -157,31 +156,18 @@ module _ (m : Meaning) where
   file-length = let c = counts-length in ap length file-parts ∙ simp length-append (omega arith)
 
 -- the four parts of a file, each behind the one before
-pub file-put : (m : Meaning) (next : ℕ) (old a b c new : List ℕ) → a ≡ spliced 0 (tagged tag.Register (m .kinds) ∷ []) old → b ≡ spliced 1 (count-words m (m .kinds)) a
-  → c ≡ spliced (1 + m .kinds) (links-words m (m .links)) b → next ≡ 1 + m .kinds + length (links-words m (m .links)) → new ≡ spliced next (tagged tag.End next ∷ []) c
+pub file-put : (m : Meaning) (k next : ℕ) (old a b c new : List ℕ) → k ≡ m .kinds → a ≡ spliced 0 (tagged tag.Register k ∷ []) old → b ≡ spliced 1 (count-words m (m .kinds)) a
+  → c ≡ spliced (1 + k) (links-words m (m .links)) b → next ≡ 1 + k + length (links-words m (m .links)) → new ≡ spliced next (tagged tag.End next ∷ []) c
   → new ≡ file-words m ++ drop (length (file-words m)) old
-file-put m next old a b c new p q r e s =
-    let k = counts-length m in
-    let first : List ℕ = tagged tag.Register (m .kinds) ∷ [] in
+file-put m k next old a b c new h p q r e s =
+    let n = counts-length m in
+    let first : List ℕ = tagged tag.Register k ∷ [] in
     let counts : List ℕ = count-words m (m .kinds) in
     let links : List ℕ = links-words m (m .links) in
-    let b′ = splice-then 0 1 first counts old a b (omega arith) refl p q in
-    let c′ = splice-then 0 (1 + m .kinds) (first ++ counts) links old b c (omega arith) (let z = length-append first counts in omega arith) b′ r in
-    let n = length-append (first ++ counts) links in
-    let d = splice-then 0 next ((first ++ counts) ++ links) (tagged tag.End next ∷ []) old c new (omega arith) (omega (arith, length-append first counts)) c′ s in
-    d ∙ ap (λ j. spliced 0 (((first ++ counts) ++ links) ++ tagged tag.End j ∷ []) old) e ∙ ap (λ x. spliced 0 x old) (sym (file-parts m)) ∙ splice-front (file-words m) old
-
-pub tag-small : (t : Tag) → number t ≤ 15
-tag-small Schema = omega arith
-tag-small Link = omega arith
-tag-small Rule = omega arith
-tag-small Step = omega arith
-tag-small KindMap = omega arith
-tag-small LinkMap = omega arith
-tag-small End = omega arith
-tag-small Register = omega arith
-tag-small Count = omega arith
-tag-small RegisterLink = omega arith
-tag-small Record = omega arith
-tag-small Landings = omega arith
-tag-small Fault = omega arith
+    let two = splice-then 0 1 first counts old a b (omega arith) refl p q in
+    let three = splice-then 0 (1 + k) (first ++ counts) links old b c (omega arith) (omega (arith, length-append first counts)) two r in
+    splice-then 0 next ((first ++ counts) ++ links) (tagged tag.End next ∷ []) old c new (omega arith)
+      (omega (arith, length-append first counts, length-append (first ++ counts) links)) three s
+    ∙ ap (λ j. spliced 0 (((first ++ counts) ++ links) ++ tagged tag.End j ∷ []) old) e
+    ∙ ap (λ j. spliced 0 ((((tagged tag.Register j ∷ []) ++ counts) ++ links) ++ tagged tag.End (1 + j + length links) ∷ []) old) h
+    ∙ ap (λ x. spliced 0 x old) (sym (file-parts m)) ∙ splice-front (file-words m) old
