@@ -80,11 +80,15 @@ module _ (m : Meaning) (w : Writable m) (l from to : ℕ) (h : l < m .links) (e 
   row-fits : length (row-words m l) ≤ 65536
   row-fits = let j = joined-here in omega (arith, row-length m l from to e, w .small from (j .from-known))
 
-pub links-fit : (m : Meaning) → Writable m → (n : ℕ) → n ≤ m .links → length (links-words m n) ≤ n * 65536
+links-fit : (m : Meaning) → Writable m → (n : ℕ) → n ≤ m .links → length (links-words m n) ≤ n * 65536
 links-fit m w zero h = rw (links-none m) (omega arith)
 links-fit m w (suc n) h =
     let t = ends-told m n (w .unbroken n (omega arith)) in
     omega (arith, links-step m n, row-fits m w n (t .0) (t .1) (omega arith) (t .2), links-fit m w n (omega arith))
+
+-- the number of words fits the field of the end
+pub file-fits : (m : Meaning) → Writable m → 1 + m .kinds + length (links-words m (m .links)) < 268435456
+file-fits m w = omega (arith, w .few-kinds, w .few-links, links-fit m w (m .links) (omega arith))
 
 -- two meanings with the same answers
 same-meaning : (a b : Meaning) → a .kinds ≡ b .kinds → a .links ≡ b .links → ((l : ℕ) → a .ends l ≡ b .ends l) → ((k : ℕ) → a .count k ≡ b .count k)

@@ -14,7 +14,7 @@ use Rattle.std.specs.declared.option.Option.the-variants.{Some, None}
 use Rattle.words.specs.declared.tags.Tag.{Tag}
 use Rattle.words.specs.declared.tags.Tag.the-variants as tag
 use Rattle.words.specs.Tags.{tagged}
-use Rattle.words.specs.Layout.{link-words, before-end, layout}
+use Rattle.words.specs.Layout.{link-words, before-end}
 use Rattle.registers.specs.Meaning.{Meaning}
 use Rattle.registers.specs.Writing.{upto, lead, row-by, row-of, file-of}
 use Rattle.registers.specs.Splices.{spliced, file-words, row-words, count-words, record-words, links-words}

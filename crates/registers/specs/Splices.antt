@@ -1,14 +1,12 @@
 -- Words written one behind another, and what is asked of the parts of a register before.
 use mathlib.Core.Path.{_≡_}
 use mathlib.Core.Bool.{false}
-use mathlib.Core.List.{List, [], _++_, map}
+use mathlib.Core.List.{List, _++_, map}
 use Prim.Native.Nat.{ℕ, _+_, _<_, _≤_}
 use lib.ListN.{length, take, drop}
 use Rattle.std.specs.shelf.Lists.{joined}
-use Rattle.words.specs.declared.tags.Tag.{Tag}
 use Rattle.words.specs.declared.tags.Tag.the-variants as tag
 use Rattle.words.specs.Tags.{tagged}
-use Rattle.words.specs.Register.{Row}
 use Rattle.words.specs.Layout.{link-words, layout}
 use Rattle.registers.specs.Meaning.{Meaning}
 use Rattle.registers.specs.Writing.{upto, lead, row-of, file-of, broken}

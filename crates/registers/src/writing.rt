@@ -10,8 +10,8 @@ use crate::writing::parts::put_file;
 use words::faults::Fault;
 use words::faults::Refusal;
 
-pub mod checks;
-pub mod parts;
+mod checks;
+mod parts;
 
 // Why a register is not written.
 #[derive(Clone, Copy, PartialEq, Eq, Debug)]

@@ -1,6 +1,6 @@
 // What is tested before a register is written.
 ghost use mathlib.Core.Path.{_≡_};
-ghost use Prim.Native.Nat.{ℕ, _+_, _≤_};
+ghost use Prim.Native.Nat.{_≤_};
 ghost use lib.ListN.{length};
 ghost use Rattle.registers.specs.Meaning.{Lawful};
 ghost use Rattle.registers.specs.Writing.{crowded, large, astray as astrayOf, strays as straysOf, broken, lowest};
@@ -65,7 +65,8 @@ fn is_broken<R: Register>(register: &R, link: u32) -> bool
 pub fn lowest_broken<R: Register>(register: &R) -> Option<u32>
     ensures { λ r. ⌜ r ≡ lowest (broken (meaning (now (register .entry)))) (meaning (now (register .entry)) .links) ⌝ }
 {
-    for link in 0..register.links() {
+    let links = register.links();
+    for link in 0..links {
         if is_broken(register, link) {
             return Some(link);
         }

@@ -1,7 +1,7 @@
 // The words of a register, written part by part.
 ghost use mathlib.Core.Path.{_≡_};
 ghost use mathlib.Core.List.{[], _∷_, _++_};
-ghost use Prim.Native.Nat.{ℕ, _+_, _<_, _≤_};
+ghost use Prim.Native.Nat.{_+_, _<_, _≤_};
 ghost use lib.ListN.{length, drop};
 ghost use Rattle.words.specs.Tags.{tagged};
 ghost use Rattle.registers.specs.Splices.{spliced, file-words, row-words, count-words, record-words, links-words, Leads-fit, Writable};

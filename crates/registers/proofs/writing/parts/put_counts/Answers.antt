@@ -1,6 +1,4 @@
-use mathlib.Core.Path.{_≡_, ap, _∙_}
 use native.Mathlib.Omega.{arith}
-use Rattle.registers.specs.Splices.{spliced, count-words}
 use Rattle.registers.proofs.WrittenSplices.{counts-none, counts-more}
 use Rattle.registers.proofs.writing.parts.put_counts.Needs as need
 
@@ -12,9 +10,3 @@ loop-kind-again g c = counts-more _ (c .loop-kind .kind) _ _ _ _ (omega arith) (
 
 pub put-requires : need.put-requires
 put-requires g c κs = (omega arith, omega (arith, c .pre .0 .small (c .loop-kind .kind) (omega arith)))
-
-pub returns : need.returns
-returns g c =
-    let m = g .R·Register .meaning (c .args .register .now) in
-    let e : c .loop-kind .kind ≡ m .kinds = omega arith in
-    c .loop-kind .inv ∙ ap (λ k. spliced 1 (count-words m k) (c .args .out .now)) e

@@ -1,7 +1,6 @@
 use native.Mathlib.Omega.{arith}
-use native.Mathlib.Nat.{le-refl}
 use Rattle.registers.proofs.WrittenSplices.{file-length, file-put}
-use Rattle.registers.proofs.WrittenFiles.{links-fit}
+use Rattle.registers.proofs.WrittenFiles.{file-fits}
 use Rattle.registers.proofs.writing.parts.put_file.Needs as need
 
 pub put-requires : need.put-requires
@@ -14,25 +13,20 @@ pub put-links-next-requires : need.put-links-next-requires
 put-links-next-requires g c κs = let n = file-length (g .R·Register .meaning (c .args .register .now)) in (c .pre .0, omega arith)
 
 pub cast-next : need.cast-next
-cast-next g c =
-    let m = g .R·Register .meaning (c .args .register .now) in
-    omega (arith, c .pre .0 .few-kinds, c .pre .0 .few-links, links-fit m (c .pre .0) (m .links) (omega arith))
+cast-next g c = let s = file-fits _ (c .pre .0) in omega arith
 
 pub put-requires-2 : need.put-requires-2
 put-requires-2 g c κs =
-    let m = g .R·Register .meaning (c .args .register .now) in
-    let n = file-length m in
-    (omega arith, omega (arith, c .pre .0 .few-kinds, c .pre .0 .few-links, links-fit m (c .pre .0) (m .links) (omega arith)))
+    let n = file-length (g .R·Register .meaning (c .args .register .now)) in
+    let s = file-fits _ (c .pre .0) in
+    (omega arith, omega arith)
 
 pub add-result : need.add-result
-add-result g c =
-    let m = g .R·Register .meaning (c .args .register .now) in
-    omega (arith, c .pre .0 .few-kinds, c .pre .0 .few-links, links-fit m (c .pre .0) (m .links) (omega arith))
+add-result g c = let s = file-fits _ (c .pre .0) in omega arith
 
 pub returns : need.returns
 returns g c =
-    let m = g .R·Register .meaning (c .args .register .now) in
-    let n = file-length m in
+    let n = file-length (g .R·Register .meaning (c .args .register .now)) in
     record {
       size = omega arith;
-      words = file-put m _ _ _ _ _ _ _ (c .kinds-kinds .ensures .answer) (c .put .ensures) (c .put-counts .ensures) (c .put-links-next .ensures .words) (c .put-links-next .ensures .next) (c .put-2 .ensures) }
+      words = file-put _ _ _ _ _ _ _ _ (c .kinds-kinds .ensures .answer) (c .put .ensures) (c .put-counts .ensures) (c .put-links-next .ensures .words) (c .put-links-next .ensures .next) (c .put-2 .ensures) }

@@ -1,8 +1,6 @@
-use mathlib.Core.Path.{_≡_, ap, _∙_}
-use Prim.Native.Nat.{_+_}
+use mathlib.Core.Path.{ap}
 use lib.ListN.{length}
 use native.Mathlib.Omega.{arith}
-use Rattle.registers.specs.Splices.{spliced, links-words}
 use Rattle.registers.proofs.WrittenSplices.{links-none, links-start, links-length, links-more, links-room}
 use Rattle.registers.proofs.writing.parts.put_links.Needs as need
 
@@ -22,11 +20,3 @@ loop-link-again g c =
     let m = g .R·Register .meaning (c .args .register .now) in
     let n = links-length m (c .loop-link .link) in
     (omega arith, links-more m (c .args .at) (c .loop-link .next) (c .loop-link .link) _ _ _ (omega arith) (c .loop-link .inv .0) (c .loop-link .inv .1) (c .put-link-next .ensures .words))
-
-pub returns : need.returns
-returns g c =
-    let m = g .R·Register .meaning (c .args .register .now) in
-    let e : c .loop-link .link ≡ m .links = omega arith in
-    record {
-      next = c .loop-link .inv .0 ∙ ap (λ k. c .args .at + length (links-words m k)) e;
-      words = c .loop-link .inv .1 ∙ ap (λ k. spliced (c .args .at) (links-words m k) (c .args .out .now)) e }

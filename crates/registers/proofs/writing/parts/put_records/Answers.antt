@@ -2,7 +2,6 @@ use mathlib.Core.Path.{_≡_, ap, _∙_}
 use native.Mathlib.Omega.{arith}
 use Rattle.std.specs.Options.{valueOr}
 use Rattle.registers.specs.Writing.{lead}
-use Rattle.registers.specs.Splices.{spliced, record-words}
 use Rattle.registers.proofs.WrittenSplices.{records-none, records-more}
 use Rattle.registers.proofs.writing.parts.put_records.Needs as need
 
@@ -17,8 +16,3 @@ pub put-requires : need.put-requires
 put-requires g c κs =
     let e : c .unwrap-or .result ≡ lead (g .R·Register .meaning (c .args .register .now)) (c .args .link) (c .loop-r .r) = c .unwrap-or .ensures ∙ ap (λ o. valueOr o 0) (c .follow .ensures) in
     (omega arith, omega (arith, c .pre .0 (c .loop-r .r) (omega arith)))
-
-pub returns : need.returns
-returns g c =
-    let e : c .loop-r .r ≡ c .args .n = omega arith in
-    c .loop-r .inv ∙ ap (λ k. spliced (c .args .at) (record-words (g .R·Register .meaning (c .args .register .now)) (c .args .link) k) (c .args .out .now)) e
