@@ -13,17 +13,17 @@ use Rattle.std.specs.declared.option.Option.the-variants.{Some, None}
 use Rattle.std.specs.declared.result.Result.{Result}
 use Rattle.std.specs.declared.result.Result.the-variants.{Ok, Err}
 use Rattle.words.specs.declared.faults.SchemaFault.{SchemaFault}
-use Rattle.words.specs.Words.{giving}
-use Rattle.words.specs.Register.{Row, File, link, links-of, read}
-use Rattle.words.specs.Outline.{places, outline-of}
+use Rattle.words.specs.Words.{starts}
+use Rattle.register_files.specs.Register.{Row, File, link, span, read}
+use Rattle.words.specs.Items.{places}
+use Rattle.register_files.specs.Outline.{outline-of}
 use Rattle.registers.specs.Meaning.{Lawful, no-row, row-at, no-file, or-none, file, answers}
 use Rattle.registers.specs.Holding.{kept}
 use Rattle.words.proofs.Inverse.{err-ok}
-use Rattle.words.proofs.Single.{Stood, word-told, counted-told}
-use Rattle.words.proofs.Runs.{many-at, many-length}
-use Rattle.words.proofs.Parts.{Link-read, link-told, count-stood, counts-told}
-use Rattle.words.proofs.Rows.{rows-at, rows-length}
-use Rattle.words.proofs.Files.{File-read, read-told}
+use Rattle.words.proofs.Single.{Stood, word-told}
+use Rattle.words.proofs.Items.{run-at, run-length, items-at}
+use Rattle.register_files.proofs.Parts.{Link-read, link-told, count-stood, counts-told, counted-told}
+use Rattle.register_files.proofs.Files.{File-read, read-told}
 use Rattle.words.specs.declared.tags.Tag.the-variants as tag
 
 pub file-none : file [] ≡ no-file
@@ -31,14 +31,14 @@ unfolding file
 file-none = refl
 
 made-by : (r : Result File SchemaFault) (k n : ℕ) (ps : List ℕ) → outline-of r ≡ Ok (k, n, ps)
-  → (r ≡ Ok (or-none r)) × (k ≡ length (or-none r .counts)) × (n ≡ length (or-none r .links)) × (ps ≡ places (1 + k) (or-none r .links))
+  → (r ≡ Ok (or-none r)) × (k ≡ length (or-none r .counts)) × (n ≡ length (or-none r .links)) × (ps ≡ places span (1 + k) (or-none r .links))
 made-by (Ok f) k n ps e =
-    let h : _≡_ {A = ℕ × ℕ × List ℕ} (length (f .counts), length (f .links), places (1 + length (f .counts)) (f .links)) (k, n, ps) = cc in
-    (refl, ap (λ t. t .0) (sym h), ap (λ t. t .1) (sym h), ap (λ t. t .2) (sym h) ∙ ap (λ j. places (1 + j) (f .links)) (ap (λ t. t .0) h))
+    let h : _≡_ {A = ℕ × ℕ × List ℕ} (length (f .counts), length (f .links), places span (1 + length (f .counts)) (f .links)) (k, n, ps) = cc in
+    (refl, ap (λ t. t .0) (sym h), ap (λ t. t .1) (sym h), ap (λ t. t .2) (sym h) ∙ ap (λ j. places span (1 + j) (f .links)) (ap (λ t. t .0) h))
 made-by (Err y) k n ps e = absurd (err-ok e)
 
 pub file-made : (ws : List ℕ) (k n : ℕ) (ps : List ℕ) → outline-of (read ws) ≡ Ok (k, n, ps)
-  → (read ws ≡ Ok (file ws)) × (k ≡ length (file ws .counts)) × (n ≡ length (file ws .links)) × (ps ≡ places (1 + k) (file ws .links))
+  → (read ws ≡ Ok (file ws)) × (k ≡ length (file ws .counts)) × (n ≡ length (file ws .links)) × (ps ≡ places span (1 + k) (file ws .links))
 unfolding file
 file-made ws k n ps e = made-by (read ws) k n ps e
 
@@ -63,28 +63,28 @@ pub held-count : (ws : List ℕ) (k : ℕ) → k < length (file ws .counts) → 
 held-count ws k h = count-stood ws (file ws .counts) k (with-kinds ws (omega arith) .counted) h
 
 -- a link stands at its place
-pub held-link : (ws : List ℕ) (l kinds n p : ℕ) (ps : List ℕ) → l < n → n ≡ length (file ws .links) → kinds ≡ length (file ws .counts) → take n ps ≡ places (1 + kinds) (file ws .links) → p ≡ getD ps l 0
-  → Link-read (64 - l) (file ws .counts) ws p (row-at (file ws) l)
+pub held-link : (ws : List ℕ) (l kinds n p : ℕ) (ps : List ℕ) → l < n → n ≡ length (file ws .links) → kinds ≡ length (file ws .counts) → take n ps ≡ places span (1 + kinds) (file ws .links) → p ≡ getD ps l 0
+  → Link-read (file ws .counts) ws (64 - l) p (row-at (file ws) l)
 held-link ws l kinds n p ps h a b e q =
     let r = with-links ws (omega arith) in
-    let s : getD (places (1 + length (file ws .counts)) (file ws .links)) l 0 ≡ p =
-      ap (λ j. getD (places (1 + j) (file ws .links)) l 0) (sym b) ∙ ap (λ t. getD t l 0) (sym e) ∙ getD-take n ps l 0 h ∙ sym q in
-    link-told (64 - l) (file ws .counts) ws p (row-at (file ws) l)
-      (ap (link (64 - l) (file ws .counts) ws) (sym s) ∙ rows-at tag.RegisterLink (λ room at. link room (file ws .counts) ws at) ws 64 (1 + length (file ws .counts)) l (file ws .links) no-row (r .linked) (omega arith))
+    let s : getD (places span (1 + length (file ws .counts)) (file ws .links)) l 0 ≡ p =
+      ap (λ j. getD (places span (1 + j) (file ws .links)) l 0) (sym b) ∙ ap (λ t. getD t l 0) (sym e) ∙ getD-take n ps l 0 h ∙ sym q in
+    link-told (file ws .counts) ws (64 - l) p (row-at (file ws) l)
+      (ap (link (file ws .counts) ws (64 - l)) (sym s) ∙ items-at span (λ room p. starts tag.RegisterLink ws p) (link (file ws .counts) ws) 64 (1 + length (file ws .counts)) l (file ws .links) no-row (r .linked) (omega arith))
 
 -- and its records behind it
-pub link-length : (room : ℕ) (cs ws : List ℕ) (at : ℕ) (l : Row) → Link-read room cs ws at l → length (l .leads) ≡ getD cs (l .from) 0
-link-length room cs ws at l r = many-length _ _ _ _ (r .each)
+pub link-length : (cs ws : List ℕ) (room at : ℕ) (l : Row) → Link-read cs ws room at l → length (l .leads) ≡ getD cs (l .from) 0
+link-length cs ws room at l r = run-length _ _ _ _ (r .each)
 
-pub link-lead : (room : ℕ) (cs ws : List ℕ) (at : ℕ) (l : Row) (k : ℕ) → Link-read room cs ws at l → k < getD cs (l .from) 0 → Stood tag.Record ws (at + 1 + k) (getD (l .leads) k 0)
-link-lead room cs ws at l k r h = counted-told _ ws (at + 1 + k) (getD (l .leads) k 0) (many-at _ _ (at + 1) k (l .leads) 0 (r .each) h) .0
+pub link-lead : (cs ws : List ℕ) (room at : ℕ) (l : Row) (k : ℕ) → Link-read cs ws room at l → k < getD cs (l .from) 0 → Stood tag.Record ws (at + 1 + k) (getD (l .leads) k 0)
+link-lead cs ws room at l k r h = counted-told _ ws (at + 1 + k) (getD (l .leads) k 0) (run-at _ _ (at + 1) k (l .leads) 0 (r .each) h) .0
 
-pub link-stood : (room : ℕ) (cs ws : List ℕ) (at : ℕ) (l : Row) → Link-read room cs ws at l → Stood tag.RegisterLink ws at (l .from * 256 + l .to)
-link-stood room cs ws at l r = word-told tag.RegisterLink ws at (l .from * 256 + l .to) (r .head)
+pub link-stood : (cs ws : List ℕ) (room at : ℕ) (l : Row) → Link-read cs ws room at l → Stood tag.RegisterLink ws at (l .from * 256 + l .to)
+link-stood cs ws room at l r = word-told tag.RegisterLink ws at (l .from * 256 + l .to) (r .head)
 
 -- the same, as the code asks
 module _ (ws : List ℕ) (kinds links : ℕ) (ps : List ℕ) (kinded : kinds ≡ length (file ws .counts)) (linked : links ≡ length (file ws .links))
-  (placed : take links ps ≡ places (1 + kinds) (file ws .links)) where
+  (placed : take links ps ≡ places span (1 + kinds) (file ws .links)) where
   pub count-inside : (k : ℕ) → k < kinds → 1 + k < length ws
   count-inside k h = held-count ws k (omega arith) .inside
 
@@ -94,7 +94,7 @@ module _ (ws : List ℕ) (kinds links : ℕ) (ps : List ℕ) (kinded : kinds ≡
   pub count-none : (k : ℕ) → kinds ≤ k → 0 ≡ answers (file ws) .count k
   count-none k h = sym (getD-past (file ws .counts) k 0 (omega arith))
 
-  link-here : (l : ℕ) → l < links → Link-read (64 - l) (file ws .counts) ws (getD ps l 0) (row-at (file ws) l)
+  link-here : (l : ℕ) → l < links → Link-read (file ws .counts) ws (64 - l) (getD ps l 0) (row-at (file ws) l)
   link-here l h = held-link ws l kinds links (getD ps l 0) ps h linked kinded placed refl
 
   pub link-inside : (l : ℕ) → l < links → getD ps l 0 < length ws

@@ -2,7 +2,8 @@ ghost use mathlib.Core.Path.{_≡_};
 ghost use Prim.Native.Nat.{ℕ, _+_, _≤_};
 ghost use lib.ListN.{length, take};
 ghost use denote.Ref.{now};
-ghost use Rattle.words.specs.Outline.{places as placesOf};
+ghost use Rattle.words.specs.Items.{places as placesOf};
+ghost use Rattle.register_files.specs.Register.{span};
 ghost use Rattle.registers.specs.Meaning.{file};
 
 pub mod calls;
@@ -17,5 +18,5 @@ pub struct Held<'a> {
     ghost few: { links ≤ 64 },
     ghost kinded: { kinds ≡ length (file (now words) .counts) },
     ghost linked: { links ≡ length (file (now words) .links) },
-    ghost placed: { take links places ≡ placesOf (1 + kinds) (file (now words) .links) },
+    ghost placed: { take links places ≡ placesOf span (1 + kinds) (file (now words) .links) },
 }

@@ -16,7 +16,7 @@ use Rattle.words.specs.declared.faults.SchemaFault.{SchemaFault}
 use Rattle.words.specs.declared.faults.Refusal.the-variants.{Limit}
 use Rattle.words.specs.Faults.{fault-of, schema-fault}
 use Rattle.words.specs.Words.{tag, then, giving}
-use Rattle.words.specs.Register.{File, read}
+use Rattle.register_files.specs.Register.{File, read}
 use Rattle.registers.specs.declared.writing.WriteFault.{WriteFault}
 use Rattle.registers.specs.declared.writing.WriteFault.the-variants.{Memory}
 use Rattle.registers.specs.Holding.{kept}

@@ -13,7 +13,7 @@ use Rattle.words.specs.declared.tags.Tag.the-variants as tags
 use Rattle.words.specs.Tags.{number}
 use Rattle.words.specs.Faults.{fault-of, fault-word, schema-fault}
 use Rattle.words.specs.Words.{tag, then}
-use Rattle.words.specs.Register.{File, read}
+use Rattle.register_files.specs.Register.{File, read}
 use Rattle.registers.specs.declared.writing.WriteFault.{WriteFault}
 use Rattle.registers.specs.declared.writing.WriteFault.the-variants.{Memory}
 use Rattle.registers.specs.WriteFaults.{write-fault}

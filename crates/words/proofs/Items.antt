@@ -13,7 +13,7 @@ use Rattle.std.specs.declared.result.Result.{Result}
 use Rattle.std.specs.declared.result.Result.the-variants.{Ok, Err}
 use Rattle.words.specs.declared.faults.SchemaFault.{SchemaFault}
 use Rattle.words.specs.Words.{then}
-use Rattle.words.specs.Items.{items, sizes, sized, got, behind, outlined, places, prepended, ended}
+use Rattle.words.specs.Items.{items, one-word, run, sizes, sized, got, behind, outlined, places, prepended, ended}
 use Rattle.words.proofs.Inverse.{err-ok, then-ok}
 
 pub behind-ok : {X : Type 0} (size : X → ℕ) (at next : ℕ) (r : Result X SchemaFault) → behind size at r ≡ Ok next → (l : X) × (r ≡ Ok l) × (next ≡ at + size l)
@@ -206,3 +206,31 @@ module _ {X : Type 0} (size : X → ℕ) (more : ℕ → ℕ → Bool) (f : ℕ 
 
 pub more-one : (m : ℕ) → ltb 0 (suc m) ≡ true
 more-one m = grind (arith, tells)
+
+-- exactly so many items of one word
+pub places-one : {X : Type 0} (xs : List X) (at k : ℕ) → k < length xs → getD (places one-word at xs) k 0 ≡ at + k
+places-one [] at k h = absurd (omega arith)
+places-one (x ∷ xs) at zero h = sym (add-zero at)
+places-one (x ∷ xs) at (suc k) h = places-one xs (at + 1) k (omega arith) ∙ omega arith
+
+pub sizes-one : {X : Type 0} (xs : List X) → sizes one-word xs ≡ length xs
+sizes-one [] = refl
+sizes-one (x ∷ xs) = let h = sizes-one xs in omega arith
+
+module _ {X : Type 0} (f : ℕ → Result X SchemaFault) where
+  pub run-length : (n at : ℕ) (xs : List X) → run f n at ≡ Ok xs → length xs ≡ n
+  run-length n at xs e = items-full one-word (λ left p. ltb 0 left) (λ left p. f p) (λ m p. more-one m) n at xs e
+
+  pub run-at : (n at k : ℕ) (xs : List X) (d : X) → run f n at ≡ Ok xs → k < n → f (at + k) ≡ Ok (getD xs k d)
+  run-at n at k xs d e h =
+      let l = run-length n at xs e in
+      ap f (sym (places-one xs at k (omega arith))) ∙ items-at one-word (λ left p. ltb 0 left) (λ left p. f p) n at k xs d e (omega arith)
+
+  pub run-turn : (n k p : ℕ) (x : X) → k < n → f p ≡ Ok x → ended one-word (p + 1) (run f (n - (k + 1)) (p + 1)) ≡ ended one-word p (run f (n - k) p)
+  run-turn n k p x h e = ended-turn one-word (λ left p. ltb 0 left) (λ left p. f p) n k p (p + 1) (more-left n k h) h (ap (behind one-word p) e)
+
+  pub run-stop : (n k p : ℕ) (y : SchemaFault) → k < n → f p ≡ Err y → ended one-word p (run f (n - k) p) ≡ Err y
+  run-stop n k p y h e = ended-stop one-word (λ left p. ltb 0 left) (λ left p. f p) (n - k) p y (more-left n k h) (ap (behind one-word p) e)
+
+  pub run-done : (n k p : ℕ) → n ≤ k → ended one-word p (run f (n - k) p) ≡ Ok p
+  run-done n k p h = ended-done one-word (λ left p. ltb 0 left) (λ left p. f p) (n - k) p (none-left n k h)

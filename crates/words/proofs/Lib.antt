@@ -1,10 +1,6 @@
 pub mod Inverse
 pub mod Single
-pub mod Runs
 pub mod Items
 pub mod Standing
 pub mod Laid
-pub mod Parts
-pub mod Rows
-pub mod Files
-pub mod Layouts
+pub mod Tokening

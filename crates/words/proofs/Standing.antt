@@ -9,15 +9,10 @@ use lib.ListN.{length, getD, drop, length-append, length-drop}
 use lib.Dec.{ltb, eqb}
 use Rattle.std.proofs.shelf.Lists.{drop-more, drop-all, drop-drop, drop-at, getD-drop}
 use Rattle.std.proofs.shelf.Ways.{tells}
-use Rattle.std.specs.shelf.Lists.{All}
-use Rattle.std.specs.declared.result.Result.{Result}
-use Rattle.std.specs.declared.result.Result.the-variants.{Ok, Err}
-use Rattle.words.specs.declared.faults.SchemaFault.{SchemaFault}
-use Rattle.words.specs.Words.{then, many, starts}
+use Rattle.words.specs.Words.{starts}
 use Rattle.words.specs.declared.tags.Tag.{Tag}
 use Rattle.words.specs.Tags.{tagged, number, size}
 use Rattle.words.proofs.Single.{Stood}
-use Rattle.words.proofs.Runs.{Split, many-split}
 
 pub record Stands (ws : List ℕ) (a : ℕ) (xs : List ℕ) (b : ℕ) : Type 0 where
   pub here : drop a ws ≡ xs ++ drop b ws
@@ -76,23 +71,3 @@ whole ws xs b s e = s .here ∙ ap (λ r. xs ++ r) (drop-all b ws (omega arith))
 
 pub itself : (xs : List ℕ) → Stands xs 0 xs (length xs)
 itself xs = record { here = sym (ap (λ r. xs ++ r) (drop-all (length xs) xs (omega arith)) ∙ append-nil xs); far = zero-add (length xs) }
-
--- a run of words
-module _ (ws : List ℕ) (t : Tag) (P : ℕ → Type 0) (f : ℕ → Result ℕ SchemaFault) where
-  pub run-stands : ((p v : ℕ) → f p ≡ Ok v → Stands ws p (tagged t v ∷ []) (p + 1)) → (n p : ℕ) (xs : List ℕ) → many f n p ≡ Ok xs → Stands ws p (map (tagged t) xs) (p + n)
-  run-stands each zero p xs e = let h : xs ≡ [] = cc in rw (h, add-zero) (none ws p)
-  run-stands each (suc n) p xs e =
-      let s = many-split f n p xs e in
-      let q : p + 1 + n ≡ p + suc n = omega arith in
-      rw (s .all, ← q) (join ws p (p + 1) (p + 1 + n) (tagged t (s .head) ∷ []) (map (tagged t) (s .tail)) (each p (s .head) (s .here)) (run-stands each n (p + 1) (s .tail) (s .rest)))
-
-  pub run-all : ((p v : ℕ) → f p ≡ Ok v → P v) → (n p : ℕ) (xs : List ℕ) → many f n p ≡ Ok xs → All P xs
-  run-all each zero p xs e = let h : xs ≡ [] = cc in rw h tt
-  run-all each (suc n) p xs e =
-      let s = many-split f n p xs e in rw (s .all) (each p (s .head) (s .here), run-all each n (p + 1) (s .tail) (s .rest))
-
-  pub run-read : ((p v : ℕ) → P v → Stands ws p (tagged t v ∷ []) (p + 1) → f p ≡ Ok v) → (xs : List ℕ) (p b : ℕ) → All P xs → Stands ws p (map (tagged t) xs) b → many f (length xs) p ≡ Ok xs
-  run-read each [] p b a s = refl
-  run-read each (x ∷ xs) p b a s =
-      ap (λ r. then r (λ x. then (many f (length xs) (p + 1)) (λ xs. Ok (x ∷ xs)))) (each p x (a .0) (front ws p b (tagged t x ∷ []) (map (tagged t) xs) s))
-      ∙ ap (λ r. then r (λ xs. Ok (x ∷ xs))) (run-read each xs (p + 1) b (a .1) (back ws p b (tagged t x ∷ []) (map (tagged t) xs) s))

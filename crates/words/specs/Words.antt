@@ -1,17 +1,18 @@
 -- Words on file: a tag and fields; and what every reader is made of.
-use mathlib.Core.Bool.{Bool, true, false, cond, _&&_}
-use mathlib.Core.List.{List, [], _∷_}
-use Prim.Native.Nat.{ℕ, zero, suc, _+_, _/_, _%_}
+use mathlib.Core.Bool.{Bool, cond, _&&_}
+use mathlib.Core.List.{List}
+use Prim.Native.Nat.{ℕ, _+_, _/_, _%_}
 use lib.Dec.{ltb, eqb}
 use lib.ListN.{length, getD}
 use Rattle.std.specs.declared.result.Result.{Result}
 use Rattle.std.specs.declared.result.Result.the-variants.{Ok, Err}
 use Rattle.words.specs.declared.tags.Tag.{Tag}
+use Rattle.words.specs.declared.tags.Tag.the-variants as tags
 use Rattle.words.specs.Tags.{number, size}
 use Rattle.words.specs.declared.faults.WordFault.{WordFault}
-use Rattle.words.specs.declared.faults.WordFault.the-variants.{Missing, Wrong, Limit}
+use Rattle.words.specs.declared.faults.WordFault.the-variants.{Missing, Wrong}
 use Rattle.words.specs.declared.faults.SchemaFault.{SchemaFault}
-use Rattle.words.specs.declared.faults.SchemaFault.the-variants.{Words, Unknown, Unjoined}
+use Rattle.words.specs.declared.faults.SchemaFault.the-variants.{Words}
 
 -- bits 31 to 28, and the others
 abbrev pub tag : ℕ → ℕ
@@ -41,12 +42,11 @@ abbrev pub worded : {A : Type 0} → Result A WordFault → Result A SchemaFault
 worded (Ok x) = Ok x
 worded (Err e) = Err (Words e)
 
--- as many words in a row
-abbrev pub many : {A : Type 0} → (ℕ → Result A SchemaFault) → ℕ → ℕ → Result (List A) SchemaFault
-many f zero at = Ok []
-many f (suc n) at = then (f at) (λ x. then (many f n (at + 1)) (λ xs. Ok (x ∷ xs)))
-
--- what the code tells of a reading: a number in place of what was read
+-- what a call tells of a reading: another value in place of what was read
 abbrev pub giving : {A B E : Type 0} → B → Result A E → Result B E
 giving b (Ok x) = Ok b
 giving b (Err e) = Err e
+
+-- the end, behind that many words
+abbrev pub end : List ℕ → ℕ → Result ℕ WordFault
+end ws at = then (word tags.End ws at) (λ v. cond (eqb v at) (cond (eqb (length ws) (at + 1)) (Ok at) (Err (Wrong (at + 1)))) (Err (Wrong at)))

@@ -1,13 +1,13 @@
 ghost use mathlib.Core.Path.{_≡_};
 ghost use Prim.Native.Nat.{ℕ, _+_, _≤_};
 ghost use denote.Ref.{now};
-ghost use Rattle.words.specs.Register.{read as readOf};
+ghost use Rattle.register_files.specs.Register.{read as readOf};
 ghost use Rattle.words.specs.Words.{giving};
 ghost use Rattle.registers.specs.Meaning.{answers, no-file};
 ghost use Rattle.registers.specs.Holding.{held-file, kept};
 use words::faults::SchemaFault;
 use words::reading::fields_at;
-use words::register_file::outlined;
+use register_files::read_register;
 use crate::register::Register;
 use crate::held::Held;
 
@@ -24,7 +24,7 @@ impl<'a> Held<'a> {
         ensures answer { λ r. ⌜ r ≡ giving tt (readOf (now (words .entry))) ⌝ }
         ensures after { λ _. ⌜ held-file (now (self .exit)) ≡ kept (held-file (now (self .entry))) (readOf (now (words .entry))) ⌝ }
     {
-        let found = outlined(words)?;
+        let found = read_register(words)?;
         let places = found.places;
         *self = Held { words, kinds: found.kinds, links: found.links, places };
         Ok(())

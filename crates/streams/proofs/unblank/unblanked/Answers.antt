@@ -2,7 +2,7 @@ use mathlib.Core.Path.{_≡_, refl, sym, ap, _∙_}
 use borrow.Author.Needs.{needs}
 use Rattle.std.specs.declared.result.Result.the-variants.{Ok}
 use Rattle.std.proofs.shelf.Results.{made-from-err}
-use Rattle.words.specs.Register.{read}
+use Rattle.register_files.specs.Register.{read}
 use Rattle.registers.specs.Meaning.{file}
 use Rattle.registers.specs.WriteFaults.{write-fault}
 use Rattle.streams.specs.Unblank.{answer, faulted, whole}
