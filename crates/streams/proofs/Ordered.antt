@@ -16,7 +16,7 @@ words-length bs zero = refl
 words-length bs (suc n) = simp length-append (let h = words-length bs n in omega arith)
 
 pub words-more : (bs : List ℕ) (n : ℕ) (xs : List ℕ) (v : ℕ) → n < length xs → v ≡ wordAt bs n
-  → set (wordsOf bs n ++ drop n xs) n v ≡ wordsOf bs (n + 1) ++ drop (n + 1) xs
+    → set (wordsOf bs n ++ drop n xs) n v ≡ wordsOf bs (n + 1) ++ drop (n + 1) xs
 words-more bs n xs v h e =
     ap (λ t. set (wordsOf bs n ++ t) n v) (drop-more xs n 0 h)
     ∙ set-at (wordsOf bs n) (getD xs n 0) (drop (n + 1) xs) v n (words-length bs n)
@@ -34,7 +34,7 @@ bytes-push (x ∷ ws) w = ap (λ t. four x ++ t) (bytes-push ws w)
 
 -- four items written at a, behind a front of that length
 put-four : (front rest ys : List ℕ) (a k : ℕ) → length front ≡ a → k ≡ 4 → length ys ≡ 4
-  → putMid a k (front ++ rest) ys ≡ (front ++ ys) ++ drop 4 rest
+    → putMid a k (front ++ rest) ys ≡ (front ++ ys) ++ drop 4 rest
 put-four front rest ys a k f e y =
     let l : a ≤ length (front ++ rest) = simp length-append (omega arith) in
     let n : a + 4 ≡ a + length ys = omega arith in
@@ -45,8 +45,8 @@ put-four front rest ys a k f e y =
     ∙ ap (λ u. (front ++ ys) ++ u) (drop-putMid a k (front ++ rest) ys (a + 4) s l t ∙ sym (drop-drop 4 a (front ++ rest)) ∙ ap (drop 4) (drop-at front rest a f))
 
 pub bytes-more : (ws : List ℕ) (i : ℕ) (bs xs ys : List ℕ) → i < length ws
-  → xs ≡ bytesOf (take i ws) ++ drop (4 * i) bs → ys ≡ four (getD ws i 0)
-  → putMid (4 * i) (4 * i + 4 - 4 * i) xs ys ≡ bytesOf (take (i + 1) ws) ++ drop (4 * (i + 1)) bs
+    → xs ≡ bytesOf (take i ws) ++ drop (4 * i) bs → ys ≡ four (getD ws i 0)
+    → putMid (4 * i) (4 * i + 4 - 4 * i) xs ys ≡ bytesOf (take (i + 1) ws) ++ drop (4 * (i + 1)) bs
 bytes-more ws i bs xs ys h x y =
     let le : i ≤ length ws = omega arith in
     let f : length (bytesOf (take i ws)) ≡ 4 * i = bytes-length (take i ws) ∙ ap (λ n. 4 * n) (length-take-le i ws le) in
@@ -85,7 +85,7 @@ word-back (w ∷ ws) rest (suc i) l h = next-word w (bytesOf ws ++ rest) i ∙ w
 
 -- the first words of the bytes of words are those words
 pub words-back : (ws rest : List ℕ) (n k : ℕ) → n ≤ k → k ≤ length ws → ((i : ℕ) → getD ws i 0 < 2 ^ 32)
-  → wordsOf (bytesOf (take k ws) ++ rest) n ≡ take n ws
+    → wordsOf (bytesOf (take k ws) ++ rest) n ≡ take n ws
 words-back ws rest zero k l m h = refl
 words-back ws rest (suc n) k l m h =
     let n≤k : n ≤ k = omega arith in
@@ -102,7 +102,7 @@ words-back ws rest (suc n) k l m h =
 
 -- the loop's last turn: n words were written, as 4 * n bytes
 pub all-written : (ws bs after : List ℕ) (i n : ℕ) → i ≡ n → n ≤ length ws → after ≡ bytesOf (take i ws) ++ drop (4 * i) bs → ((k : ℕ) → getD ws k 0 < 2 ^ 32)
-  → (after ≡ bytesOf (take (4 * n / 4) ws) ++ drop (4 * n) bs) × (wordsOf after (4 * n / 4) ≡ take (4 * n / 4) ws)
+    → (after ≡ bytesOf (take (4 * n / 4) ws) ++ drop (4 * n) bs) × (wordsOf after (4 * n / 4) ≡ take (4 * n / 4) ws)
 all-written ws bs after i n e m h fits =
     let q : 4 * n / 4 ≡ n = omega arith in
     let s : bytesOf (take i ws) ++ drop (4 * i) bs ≡ bytesOf (take n ws) ++ drop (4 * n) bs = ap (λ k. bytesOf (take k ws) ++ drop (4 * k) bs) e in

@@ -30,7 +30,7 @@ apart p = let z : _≡_ {A = ℕ} 0 1 = cc in omega arith
 
 -- the words that were read are all whole words of the input
 all-read : (bs ws after : List ℕ) (n : ℕ) → n ≡ min (length bs / 4) (length ws) → after ≡ wordsOf bs n ++ drop n ws
-  → length ws ≡ 8192 → length bs ≤ 32768 → take n after ≡ whole bs
+    → length ws ≡ 8192 → length bs ≤ 32768 → take n after ≡ whole bs
 all-read bs ws after n count words room short =
     let e : n ≡ length bs / 4 = omega arith in
     ap (take n) words ∙ take-at (wordsOf bs n) (drop n ws) n (words-length bs n) ∙ ap (wordsOf bs) e
@@ -56,7 +56,7 @@ carried (Err y) ws bs x q e = ap Err q ∙ sym e
 
 -- what the reading tells of the answer
 module _ (bs ws after : List ℕ) (n : ℕ) (count : n ≡ min (length bs / 4) (length ws)) (words : after ≡ wordsOf bs n ++ drop n ws)
-  (room : length ws ≡ 8192) (short : length bs ≤ 32768) where
+    (room : length ws ≡ 8192) (short : length bs ≤ 32768) where
   pub read-refused : (x : SchemaFault) → giving {B = Unit {0}} tt (read (take n after)) ≡ Err x → answer bs ≡ Err (schema-fault x)
   read-refused x e =
       answer-short bs short
@@ -77,18 +77,18 @@ refused-by ws out true x e = absurd (apart e)
 refused-by ws out false x e = let m : Memory ≡ x = cc in ap Err m
 
 pub write-refused : (r : Result (List ℕ) WriteFault) (out after : List ℕ) (x : WriteFault) → length out ≡ 8192
-  → _≡_ {A = Result ℕ WriteFault × List ℕ} (Err x, after) (put r out) → within 8192 r ≡ Err x
+    → _≡_ {A = Result ℕ WriteFault × List ℕ} (Err x, after) (put r out) → within 8192 r ≡ Err x
 write-refused (Ok ws) out after x room e =
     refused-by ws out (leb (length ws) 8192) x (subst (λ n. put-by ws out (leb (length ws) n) .0 ≡ Err x) room (sym (ap (λ p. p .0) e)))
 write-refused (Err y) out after x room e = sym (ap (λ p. giving [] (p .0)) e)
 
 done-by : (ws out : List ℕ) (b : Bool) (n : ℕ) → put-by ws out b .0 ≡ Ok n
-  → (n ≡ length ws) × (b ≡ true) × (cond b (Ok ws) (Err Memory) ≡ Ok (take n (put-by ws out b .1)))
+    → (n ≡ length ws) × (b ≡ true) × (cond b (Ok ws) (Err Memory) ≡ Ok (take n (put-by ws out b .1)))
 done-by ws out true n e = let m : n ≡ length ws = cc in (m, refl, ap Ok (sym (take-at ws (drop (length ws) out) n (sym m))))
 done-by ws out false n e = absurd (apart (sym e))
 
 pub write-done : (r : Result (List ℕ) WriteFault) (out after : List ℕ) (n : ℕ) → length out ≡ 8192
-  → _≡_ {A = Result ℕ WriteFault × List ℕ} (Ok n, after) (put r out) → (n ≤ 8192) × (within 8192 r ≡ Ok (take n after))
+    → _≡_ {A = Result ℕ WriteFault × List ℕ} (Ok n, after) (put r out) → (n ≤ 8192) × (within 8192 r ≡ Ok (take n after))
 write-done (Ok ws) out after n room e =
     let by : ℕ → Result ℕ WriteFault × List ℕ = λ k. put-by ws out (leb (length ws) k) in
     let d = done-by ws out (leb (length ws) 8192) n (subst (λ k. by k .0 ≡ Ok n) room (sym (ap (λ p. p .0) e))) in
@@ -98,16 +98,17 @@ write-done (Err y) out after n room e = absurd (apart (ap (λ p. p .0) e))
 
 -- all words of an answer are sent, and they are read back from what was sent
 pub delivered : (ws out after : List ℕ) (r : ℕ) (a : Result (List ℕ) Fault) → ws ≡ sent a → length ws ≤ 8192 → length out ≡ 32768 → length after ≡ length out
-  → r ≡ 4 * min (length ws) (length out / 4) → after ≡ bytesOf (take (r / 4) ws) ++ drop r out → wordsOf after (r / 4) ≡ take (r / 4) ws
-  → (r ≤ 32768) × (r ≡ 4 * length (sent a)) × (after ≡ bytesOf (sent a) ++ drop r out) × (whole (take r after) ≡ ws)
+    → r ≡ 4 * min (length ws) (length out / 4) → after ≡ bytesOf (take (r / 4) ws) ++ drop r out → wordsOf after (r / 4) ≡ take (r / 4) ws
+    → (r ≤ 32768) × (r ≡ 4 * length (sent a)) × (after ≡ bytesOf (sent a) ++ drop r out) × (whole (take r after) ≡ ws)
 delivered ws out after r a is few room same count bytes back =
     let n : r ≡ 4 * length ws = omega arith in
     let le : r ≤ length after = omega arith in
-    let all : take (r / 4) ws ≡ ws = take-all (r / 4) ws (omega arith) in
-    (omega arith,
-     n ∙ ap (λ x. 4 * length x) is,
-     bytes ∙ ap (λ x. bytesOf x ++ drop r out) (all ∙ is),
-     ap (λ n. wordsOf (take r after) (n / 4)) (length-take-le r after le) ∙ words-take after (r / 4) r (omega arith) ∙ back ∙ all)
+    let all : take (r / 4) ws ≡ ws = take-all (r / 4) ws (omega arith) in (
+      omega arith,
+      n ∙ ap (λ x. 4 * length x) is,
+      bytes ∙ ap (λ x. bytesOf x ++ drop r out) (all ∙ is),
+      ap (λ n. wordsOf (take r after) (n / 4)) (length-take-le r after le) ∙ words-take after (r / 4) r (omega arith) ∙ back ∙ all,
+    )
 
 -- a fault word shows its tag
 pub fault-first : (ws : List ℕ) (w v : ℕ) → ws ≡ w ∷ [] → w ≡ 15 * 268435456 + v → w < 2 ^ 32 → tag (getD ws 0 0) ≡ 15

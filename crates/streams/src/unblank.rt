@@ -20,17 +20,25 @@ use words::faults::Refusal;
 
 // The longest input and output, and as words.
 pub const BYTES: usize = 32768;
+
 pub const WORDS: usize = 8192;
 
 // Reads the register through `words`, and writes it without its blanks to the front of `kept`; tells how many words.
 // What else the work words hold afterwards is left open.
-fn unblanked(input: &[u8], words: &mut [u32; WORDS], kept: &mut [u32; WORDS]) -> Result<usize, Fault>
+fn unblanked(
+    input: &[u8],
+    words: &mut [u32; WORDS],
+    kept: &mut [u32; WORDS],
+) -> Result<usize, Fault>
     ensures room { λ r. ⌜ made r (λ n. n ≤ 8192) ⌝ }
     ensures answer { λ r. ⌜ heldOf r (now (kept .exit)) ≡ answer (now (input .entry)) ⌝ }
     ensures files { λ r. ⌜ made r (λ n. Rewritten (now (input .entry)) (take n (now (kept .exit)))) ⌝ }
 {
     if input.len() > BYTES {
-        return Err(Fault { refusal: Refusal::Limit, place: WORDS });
+        return Err(Fault {
+            refusal: Refusal::Limit,
+            place: WORDS,
+        });
     }
     let count = to_words(input, words);
     let mut held = Held::new();
@@ -40,7 +48,12 @@ fn unblanked(input: &[u8], words: &mut [u32; WORDS], kept: &mut [u32; WORDS]) ->
 }
 
 // The answer to the input at the front of the output; tells how many bytes.
-pub fn unblank(input: &[u8], words: &mut [u32; WORDS], kept: &mut [u32; WORDS], output: &mut [u8; BYTES]) -> usize
+pub fn unblank(
+    input: &[u8],
+    words: &mut [u32; WORDS],
+    kept: &mut [u32; WORDS],
+    output: &mut [u8; BYTES],
+) -> usize
     ensures room { λ r. ⌜ r ≤ 32768 ⌝ }
     ensures count { λ r. ⌜ r ≡ 4 * length (sent (answer (now (input .entry)))) ⌝ }
     ensures bytes { λ r. ⌜ now (output .exit) ≡ bytesOf (sent (answer (now (input .entry)))) ++ drop r (now (output .entry)) ⌝ }

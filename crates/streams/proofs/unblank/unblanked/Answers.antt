@@ -17,18 +17,18 @@ returns-then-input-gt-BYTES c = search needs
 pub returns-in-Break-take : need.returns-in-Break-take
 returns-in-Break-take c =
     let a = read-refused _ _ _ _ (c .to-words-count .ensures .count) (c .to-words-count .ensures .words) (c .told-words) (c .if-input-gt-BYTES .left) _
-      (sym (c .in-Break-take .ensures tt .answer)) in
+    (sym (c .in-Break-take .ensures tt .answer)) in
     record {
       room = made-from-err _ _ (c .from-residual .ensures .0);
       answer = carried (c .from-residual .result) _ _ _ (c .from-residual .ensures .1) a;
-      files = made-from-err _ _ (c .from-residual .ensures .0)
+      files = made-from-err _ _ (c .from-residual .ensures .0);
     }
 
 -- the register that is written is the one in the input
 file-read : (c : After-write) → read (whole (c .args .input .now)) ≡ Ok (file (c .over .result .below .words .now))
 file-read c =
     read-done _ _ _ _ (c .to-words-count .ensures .count) (c .to-words-count .ensures .words) (c .told-words) (c .if-input-gt-BYTES .left) _ _
-      (sym (c .in-Continue-take .ensures tt .answer)) (ap (λ h. file (h .words .now)) (c .over .ensures) ∙ c .in-Continue-take .ensures tt .after)
+    (sym (c .in-Continue-take .ensures tt .answer)) (ap (λ h. file (h .words .now)) (c .over .ensures) ∙ c .in-Continue-take .ensures tt .after)
 
 pub returns-in-Break-count : need.returns-in-Break-count
 returns-in-Break-count c =
@@ -37,7 +37,7 @@ returns-in-Break-count c =
     record {
       room = made-from-err _ _ (c .from-residual-in-Break-count .ensures .0);
       answer = carried (c .from-residual-in-Break-count .result) _ _ _ (c .from-residual-in-Break-count .ensures .1) (a ∙ ap (faulted write-fault) w);
-      files = made-from-err _ _ (c .from-residual-in-Break-count .ensures .0)
+      files = made-from-err _ _ (c .from-residual-in-Break-count .ensures .0);
     }
 
 pub returns : need.returns
@@ -48,5 +48,5 @@ returns c =
     record {
       room = w .0;
       answer = sym (answer-file _ _ (c .if-input-gt-BYTES .left) f ∙ ap (faulted write-fault) (w .1));
-      files = (_, g .0, f, g .1, g .2, g .3)
+      files = (_, g .0, f, g .1, g .2, g .3);
     }
