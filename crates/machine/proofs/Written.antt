@@ -1,0 +1,175 @@
+-- Two complete tables of one load are finished with the same words. Assumes nothing.
+use mathlib.Core.Path.{_≡_, refl, sym, ap, subst, _∙_}
+use mathlib.Core.List.{List, [], _∷_, _++_, map}
+use mathlib.Core.Bool.{Bool, true, false, cond}
+use mathlib.Core.Logic.{_⊎_, inl, inr}
+use Prim.Native.Nat.{ℕ, zero, suc, _+_, _*_, _<_}
+use native.Mathlib.Omega.{arith}
+use lib.Dec.{eqb}
+use Rattle.std.proofs.shelf.Tests.{cases-eq}
+use Rattle.std.specs.declared.option.Option.{Option}
+use Rattle.std.specs.declared.option.Option.the-variants.{Some, None}
+use Rattle.machine.specs.Loaded.{Loaded}
+use Rattle.machine.specs.State.{Slot, cell, landing, State, start, on, waits}
+use Rattle.machine.specs.Merging.{chase, meet}
+use Rattle.machine.specs.Walking.{walk}
+use Rattle.machine.specs.Settling.{drain, pull, take-over}
+use Rattle.machine.specs.Sweeping.{renamed, rank, pick}
+use Rattle.machine.specs.Calls.{run, Op}
+use Rattle.machine.specs.Readings.{Accepted}
+use Rattle.machine.specs.Shift.{Call, calls, next, step, shift, lowest}
+use Rattle.machine.specs.Complete.{Complete}
+use Rattle.machine.specs.Sequence.{member, nth, of-kind, of-landings, of-cells, grown, sequence}
+use Rattle.machine.specs.Finish.{tally, before, first-or, entry-in, number, entry, count-of, lead-of, at-of, word, listing, record-words, ended-words, register-words, finish-words, Finish-example, Order-example, with-capacity, One-finish, Alike, One-table, unfinished, finish-fault, Finish-accepts}
+use Rattle.machine.proofs.Numbering.{grown-fine}
+use Rattle.machine.proofs.Runs.{cond-some, calls-good, calls-kinds, start-good, start-kinds}
+use Rattle.machine.proofs.Fill.{some-none}
+use Rattle.machine.proofs.Finished.{complete-when-done}
+use Rattle.machine.proofs.Capacity.{Whole, whole-of, accepted-at}
+use Rattle.machine.proofs.Own.{Living, held-living}
+use Rattle.machine.proofs.Entries.{entry-yes, entry-no, tally-yes, tally-no, first-or-case, entry-each, before-each}
+use Rattle.machine.proofs.Twins.{carry, carry-living, round-is, held-same, image, Kept, Each, fine-each, to, kind-kept, test-kept, slot-kept, sequence-same}
+
+pub finish-example : Finish-example
+unfolding step shift lowest run walk chase drain pull take-over meet rank pick member nth of-kind of-landings of-cells grown tally before entry-in listing
+finish-example = refl
+
+pub order-example : Order-example
+unfolding calls step shift lowest run walk chase drain pull take-over meet rank pick member nth of-kind of-landings of-cells grown tally before entry-in listing
+order-example = record {
+  accepted = record {
+    from-known = λ l h. absurd (omega (arith, h)); to-known = λ l h. absurd (omega (arith, h)); map-known = λ k h. omega arith;
+    from-in = λ i h. omega arith; to-in = λ i h. omega arith; lead-in = λ i r h q. omega arith;
+    left-in = λ i h. tt; right-in = λ i h. tt; one-end = λ i h. refl; map-in = λ i h. tt; map-end = λ i h. refl
+  };
+  complete = refl;
+  differs = (refl, refl);
+  words = refl;
+  same = refl
+}
+
+-- listings agree that agree at each number below the end
+listing-same : (n : ℕ) (f g : ℕ → List ℕ) → ((i : ℕ) → i < n → f i ≡ g i) → listing n f ≡ listing n g
+unfolding listing
+listing-same zero f g h = refl
+listing-same (suc n) f g h = ap (λ ws. ws ++ f n) (listing-same n f g (λ i q. h i (omega (arith, q)))) ∙ ap (λ ws. listing n g ++ ws) (h n (omega arith))
+
+records-same : (n : ℕ) (f g : ℕ → ℕ) → ((i : ℕ) → i < n → f i ≡ g i) → record-words n f ≡ record-words n g
+records-same n f g h = listing-same n (λ r. word 0xB (f r) ∷ []) (λ r. word 0xB (g r) ∷ []) (λ i q. ap (λ m. word 0xB m ∷ []) (h i q))
+
+register-same : (L : Loaded) (count count′ : ℕ → ℕ) (lead lead′ : ℕ → ℕ → ℕ) (at at′ : ℕ → ℕ → ℕ) →
+  ((k : ℕ) → count k ≡ count′ k) → ((l n : ℕ) → n < count′ (L .from l) → lead l n ≡ lead′ l n) → ((k r : ℕ) → at k r ≡ at′ k r) →
+  register-words L count lead at ≡ register-words L count′ lead′ at′
+register-same L count count′ lead lead′ at at′ hc hl ha =
+  let aa = listing (L .target-kinds) (λ k. word 9 (count k) ∷ []) in
+  let a = listing (L .target-kinds) (λ k. word 9 (count′ k) ∷ []) in
+  let bs = listing (L .links) (λ l. word 0xA (L .from l * 256 + L .to l) ∷ record-words (count (L .from l)) (lead l)) in
+  let b = listing (L .links) (λ l. word 0xA (L .from l * 256 + L .to l) ∷ record-words (count′ (L .from l)) (lead′ l)) in
+  let cs = listing (L .source-kinds) (λ k. word 0xC (L .count k * 65536 + (k * 256 + L .kind-map k)) ∷ record-words (L .count k) (at k)) in
+  let c = listing (L .source-kinds) (λ k. word 0xC (L .count k * 65536 + (k * 256 + L .kind-map k)) ∷ record-words (L .count k) (at′ k)) in
+  let p : aa ≡ a = listing-same (L .target-kinds) _ _ (λ k q. ap (λ m. word 9 m ∷ []) (hc k)) in
+  let q : bs ≡ b = listing-same (L .links) _ _ (λ l q. ap (λ ws. word 0xA (L .from l * 256 + L .to l) ∷ ws) (ap (λ m. record-words m (lead l)) (hc (L .from l)) ∙ records-same (count′ (L .from l)) (lead l) (lead′ l) (hl l))) in
+  let r : cs ≡ c = listing-same (L .source-kinds) _ _ (λ k q. ap (λ ws. word 0xC (L .count k * 65536 + (k * 256 + L .kind-map k)) ∷ ws) (records-same (L .count k) (at k) (at′ k) (λ i q. ha k i))) in
+  ap (λ ws. ended-words (word 8 (L .target-kinds) ∷ (ws ++ (bs ++ cs)))) p
+  ∙ (ap (λ ws. ended-words (word 8 (L .target-kinds) ∷ (a ++ (ws ++ cs)))) q
+  ∙ ap (λ ws. ended-words (word 8 (L .target-kinds) ∷ (a ++ (b ++ ws)))) r)
+
+module _ (L : Loaded) (acc : Accepted L) (c : ℕ) (s z : State) (a : Whole L s) (b : Whole (with-capacity c L) z) where
+  abbrev M : Loaded
+  M = with-capacity c L
+
+  abbrev ρ : ℕ → ℕ
+  ρ = to L acc c s z a b
+
+  all-live : Each (Living s) (sequence L s)
+  all-live = fine-each (Living s) (sequence L s) (grown-fine L s (a .good) (a .complete .quiet) (s .given))
+
+  tally-map : (k : ℕ) (xs : List ℕ) → Each (Living s) xs → tally (z .kind) k (map ρ xs) ≡ tally (s .kind) k xs
+  unfolding tally
+  tally-map k [] f = refl
+  tally-map k (x ∷ xs) f =
+    ap (λ j. cond (eqb j k) (suc (tally (z .kind) k (map ρ xs))) (tally (z .kind) k (map ρ xs))) (kind-kept L acc c s z a b x (f .0))
+    ∙ ap (λ n. cond (eqb (s .kind x) k) (suc n) n) (tally-map k xs (f .1))
+
+  before-map : (e : ℕ) (xs : List ℕ) → Living s e → Each (Living s) xs → before (ρ e) (map ρ xs) ≡ map ρ (before e xs)
+  unfolding before
+  before-map e [] h f = refl
+  before-map e (x ∷ xs) h f = ap (λ t. cond t [] (ρ x ∷ before (ρ e) (map ρ xs))) (test-kept L acc c s z a b x e (f .0) h) ∙ go (eqb x e) (before-map e xs h (f .1))
+    where
+      go : (t : Bool) → before (ρ e) (map ρ xs) ≡ map ρ (before e xs) → cond t [] (ρ x ∷ before (ρ e) (map ρ xs)) ≡ map ρ (cond t [] (x ∷ before e xs))
+      go true q = refl
+      go false q = ap (λ l. ρ x ∷ l) q
+
+  number-same : (e : ℕ) → Living s e → number M z (ρ e) ≡ number L s e
+  number-same e h =
+    ap (λ xs. tally (z .kind) (z .kind (ρ e)) (before (ρ e) xs)) (sequence-same L acc c s z a b)
+    ∙ (ap (λ k. tally (z .kind) k (before (ρ e) (map ρ (sequence L s)))) (kind-kept L acc c s z a b e h)
+    ∙ (ap (tally (z .kind) (s .kind e)) (before-map e (sequence L s) h all-live)
+    ∙ tally-map (s .kind e) (before e (sequence L s)) (before-each (Living s) e (sequence L s) all-live)))
+
+  -- what stands in a slot has the number that it had
+  slot-same : (t : Slot) → Kept s t → on (z .held (image ρ t)) 0 (number M z) ≡ on (s .held t) 0 (number L s)
+  slot-same t k = ap (λ o. on o 0 (number M z)) (slot-kept L acc c s z a b t k) ∙ go (s .held t) (λ w q. held-living L acc s a t w q)
+    where
+      go : (o : Option ℕ) → ((w : ℕ) → o ≡ Some w → Living s w) → on (renamed ρ o) 0 (number M z) ≡ on o 0 (number L s)
+      go None h = refl
+      go (Some w) h = number-same w (h w refl)
+
+  entry-map : (k : ℕ) (xs : List ℕ) (n : ℕ) → Each (Living s) xs → n < tally (s .kind) k xs → entry-in (z .kind) k (map ρ xs) n ≡ ρ (entry-in (s .kind) k xs n)
+  unfolding tally entry-in
+  entry-map k [] n f h = absurd (omega (arith, h))
+  entry-map k (x ∷ xs) n f h = elim (cases-eq (s .kind x) k) [
+      inl e ↦ entry-yes (z .kind) k (ρ x) (map ρ xs) n (kind-kept L acc c s z a b x (f .0) ∙ e)
+        ∙ (first-or-both n x xs (λ m q. entry-map k xs m (f .1) (omega (arith, tally-yes (s .kind) k x xs e, h, q))) ∙ ap ρ (sym (entry-yes (s .kind) k x xs n e)))
+    | inr e ↦ entry-no (z .kind) k (ρ x) (map ρ xs) n (λ q. e (sym (kind-kept L acc c s z a b x (f .0)) ∙ q))
+        ∙ (entry-map k xs n (f .1) (omega (arith, tally-no (s .kind) k x xs e, h)) ∙ ap ρ (sym (entry-no (s .kind) k x xs n e)))
+    ]
+    where
+      first-or-both : (n x : ℕ) (xs : List ℕ) → ((m : ℕ) → n ≡ suc m → entry-in (z .kind) k (map ρ xs) m ≡ ρ (entry-in (s .kind) k xs m)) → first-or n (ρ x) (entry-in (z .kind) k (map ρ xs)) ≡ ρ (first-or n x (entry-in (s .kind) k xs))
+      first-or-both zero x xs f = refl
+      first-or-both (suc m) x xs f = f m refl
+
+  lead-same : (l n : ℕ) → n < count-of L s (L .from l) → lead-of M z l n ≡ lead-of L s l n
+  lead-same l n h =
+    ap (λ e. on (z .held (cell e l)) 0 (number M z)) (ap (λ xs. entry-in (z .kind) (L .from l) xs n) (sequence-same L acc c s z a b) ∙ entry-map (L .from l) (sequence L s) n all-live h)
+    ∙ slot-same (cell (entry L s (L .from l) n) l) (entry-each (Living s) (s .kind) (L .from l) (sequence L s) n all-live h)
+
+  pub words-same : finish-words M z ≡ finish-words L s
+  words-same = register-same L (count-of M z) (count-of L s) (lead-of M z) (lead-of L s) (at-of M z) (at-of L s)
+    (λ k. ap (tally (z .kind) k) (sequence-same L acc c s z a b) ∙ tally-map k (sequence L s) all-live)
+    lead-same
+    (λ k r. slot-same (landing k r) tt)
+
+pub whole-calls : (L : Loaded) → Accepted L → (cs : List Call) → Complete L (calls L cs start) → Whole L (calls L cs start)
+whole-calls L acc cs d = record { good = calls-good L acc cs start (start-good L); kinds = calls-kinds L acc cs start (start-good L) (start-kinds L); complete = d }
+
+pub one-finish : One-finish
+one-finish L acc b c cs ds p q =
+  let acb = accepted-at b L acc in
+  sym (words-same (with-capacity b L) acb c (calls (with-capacity b L) cs start) (calls (with-capacity c L) ds start) (whole-calls (with-capacity b L) acb cs p) (whole-calls (with-capacity c L) (accepted-at c L acc) ds q))
+
+module _ (L : Loaded) (acc : Accepted L) (s z : State) (a : Whole L s) (b : Whole L z) where
+  alike : Alike s z (carry L acc s z a b) (carry L acc z s b a)
+  alike = record {
+    living = λ e h live. (let p = carry-living L acc s z a b e h in (p .0 .0, p .0 .1, p .1, round-is L acc s z a b e (h, live)));
+    landings = λ k r. held-same L acc s z a b (landing k r) tt;
+    cells = λ e l h live. held-same L acc s z a b (cell e l) (h, live)
+  }
+
+pub one-table : One-table
+one-table L acc b c cs ds p q =
+  let acb = accepted-at b L acc in
+  let s = whole-calls (with-capacity b L) acb cs p in
+  let z = whole-of c (with-capacity b L) (calls (with-capacity c L) ds start) (whole-calls (with-capacity c L) (accepted-at c L acc) ds q) in
+  (carry (with-capacity b L) acb _ _ s z, carry (with-capacity b L) acb _ _ z s, alike (with-capacity b L) acb _ _ s z, alike (with-capacity b L) acb _ _ z s)
+
+nothing-left : (o : Option Op) → unfinished o ≡ None → o ≡ None
+nothing-left None e = refl
+nothing-left (Some o) e = absurd (some-none 15 (Some 15) refl e)
+
+pub finish-accepts : Finish-accepts
+finish-accepts L acc cs =
+  let d = complete-when-done L acc cs in
+  let s = calls L cs start in
+  ((λ e. d .0 (nothing-left (next L (calls L cs start)) (cond-some (waits (calls L cs start .waiting)) 10 (unfinished (next L (calls L cs start))) e .1))),
+   (λ c. ap (λ ws. cond (waits ws) (Some 10) (unfinished (next L (calls L cs start)))) (c .quiet) ∙ ap unfinished (d .1 c)))

@@ -1,0 +1,16 @@
+pub mod Loaded
+pub mod State
+pub mod Merging
+pub mod Walking
+pub mod Checking
+pub mod Settling
+pub mod Sweeping
+pub mod Calls
+pub mod Readings
+pub mod Example
+pub mod Sound
+pub mod Shift
+pub mod Complete
+pub mod Sequence
+pub mod Finish
+pub mod Universal
