@@ -10,6 +10,8 @@ use lib.ListN.{length}
 use Rattle.std.proofs.shelf.Tests.{cases-eq, cases-lt, ltb-true}
 use Rattle.std.specs.declared.option.Option.{Option}
 use Rattle.std.specs.declared.option.Option.the-variants.{Some, None}
+use Rattle.words.specs.declared.faults.Refusal.{Refusal}
+use Rattle.words.specs.declared.faults.Refusal.the-variants as refusal
 use Rattle.machine.specs.Loaded.{Loaded}
 use Rattle.machine.specs.State.{Slot, cell, landing, State, start, born, lives, filled, waits}
 use Rattle.machine.specs.Merging.{die, meet, end}
@@ -54,14 +56,14 @@ effect-within : (L : Loaded) (x : Effect) (s : State) → Within L s → Within 
 effect-within L x s q = subst (λ n. n ≤ L .capacity) (sym (effect-given x s)) q
 
 -- a free number was there
-free : (b : Bool) (n m : ℕ) → cond {A = Option ℕ} b (Some 12) (cond (ltb n m) None (Some 13)) ≡ None → n < m
-free b n m e = ltb-true n m (cond-else (ltb n m) 13 None (cond-some b 12 _ e .1) .0)
+free : (b : Bool) (n m : ℕ) → cond {A = Option Refusal} b (Some refusal.Filled) (cond (ltb n m) None (Some refusal.Full)) ≡ None → n < m
+free b n m e = ltb-true n m (cond-else (ltb n m) refusal.Full None (cond-some b refusal.Filled _ e .1) .0)
 
 land-free : (L : Loaded) (s : State) (k r : ℕ) → land-fault L s k r ≡ None → s .given < L .capacity
-land-free L s k r e = free (filled (s .held (landing k r))) (s .given) (L .capacity) (cond-else (ltb k (L .source-kinds) && ltb r (L .count k)) 11 _ (cond-some (waits (s .waiting)) 10 _ e .1) .1)
+land-free L s k r e = free (filled (s .held (landing k r))) (s .given) (L .capacity) (cond-else (ltb k (L .source-kinds) && ltb r (L .count k)) refusal.NotLiving _ (cond-some (waits (s .waiting)) refusal.Waiting _ e .1) .1)
 
 define-free : (L : Loaded) (s : State) (d l : ℕ) → define-fault L s d l ≡ None → s .given < L .capacity
-define-free L s d l e = free (filled (s .held (cell d l))) (s .given) (L .capacity) (cond-else (lives s d && (ltb l (L .links) && eqb (s .kind d) (L .from l))) 11 _ (cond-some (waits (s .waiting)) 10 _ e .1) .1)
+define-free L s d l e = free (filled (s .held (cell d l))) (s .given) (L .capacity) (cond-else (lives s d && (ltb l (L .links) && eqb (s .kind d) (L .from l))) refusal.NotLiving _ (cond-some (waits (s .waiting)) refusal.Waiting _ e .1) .1)
 
 apply-within : (L : Loaded) (o : Op) (s : State) → Good L s → Within L s → Within L (apply L o s)
 apply-within L (land k r) s g q = unless-cases (Within L) (land-fault L s k r) s (born (L .kind-map k) (landing k r) s) q (λ e. land-free L s k r e)

@@ -9,6 +9,8 @@ use lib.Dec.{eqb, ltb}
 use Rattle.std.proofs.shelf.Ways.{tells}
 use Rattle.std.specs.declared.option.Option.{Option}
 use Rattle.std.specs.declared.option.Option.the-variants.{Some, None}
+use Rattle.words.specs.declared.faults.Refusal.{Refusal}
+use Rattle.words.specs.declared.faults.Refusal.the-variants as refusal
 use Rattle.machine.specs.Loaded.{Loaded}
 use Rattle.machine.specs.State.{Slot, cell, landing, State, start, born, filled, waits, lives}
 use Rattle.machine.specs.Checking.{effect, rule-effect, link-effect}
@@ -25,7 +27,7 @@ use Rattle.machine.proofs.Settle.{settled-good}
 use Rattle.machine.proofs.Sweep.{swept-good}
 use Rattle.machine.proofs.Typed.{born-kinds, rule-kinds, link-kinds, settled-kinds, swept-kinds}
 
-pub unless-cases : (P : State → Type 0) (o : Option ℕ) (s z : State) → P s → (o ≡ None → P z) → P (unless o s z)
+pub unless-cases : (P : State → Type 0) (o : Option Refusal) (s z : State) → P s → (o ≡ None → P z) → P (unless o s z)
 unless-cases P None s z a b = b refl
 unless-cases P (Some n) s z a b = a
 
@@ -38,11 +40,11 @@ none-waits [] e = refl
 none-waits (x ∷ xs) e = cc
 
 -- a refusal that is not given says that each of its tests passed
-pub cond-some : (b : Bool) (n : ℕ) (o : Option ℕ) → cond b (Some n) o ≡ None → (b ≡ false) × (o ≡ None)
+pub cond-some : (b : Bool) (n : Refusal) (o : Option Refusal) → cond b (Some n) o ≡ None → (b ≡ false) × (o ≡ None)
 cond-some true n o e = (cc, cc)
 cond-some false n o e = (refl, e)
 
-pub cond-else : (b : Bool) (n : ℕ) (o : Option ℕ) → cond b o (Some n) ≡ None → (b ≡ true) × (o ≡ None)
+pub cond-else : (b : Bool) (n : Refusal) (o : Option Refusal) → cond b o (Some n) ≡ None → (b ≡ true) × (o ≡ None)
 cond-else true n o e = (refl, e)
 cond-else false n o e = (cc, cc)
 
@@ -52,38 +54,38 @@ module _ (L : Loaded) (s : State) where
 
   land-tests : (k r : ℕ) → land-fault L s k r ≡ None → (k < L .source-kinds) × (r < L .count k) × (s .held (landing k r) ≡ None)
   land-tests k r e =
-    let a = cond-some (waits (s .waiting)) 10 _ e in
-    let b = cond-else (ltb k (L .source-kinds) && ltb r (L .count k)) 11 _ (a .1) in
-    let c = cond-some (filled (s .held (landing k r))) 12 _ (b .1) in
+    let a = cond-some (waits (s .waiting)) refusal.Waiting _ e in
+    let b = cond-else (ltb k (L .source-kinds) && ltb r (L .count k)) refusal.NotLiving _ (a .1) in
+    let c = cond-some (filled (s .held (landing k r))) refusal.Filled _ (b .1) in
     let t = b .0 in
     ((grind (arith, tells)), (grind (arith, tells)), empty-since (s .held (landing k r)) (c .0))
 
   define-tests : (e l : ℕ) → define-fault L s e l ≡ None → In-use s e × (l < L .links) × (s .kind e ≡ L .from l) × (s .held (cell e l) ≡ None)
   define-tests e l h =
-    let a = cond-some (waits (s .waiting)) 10 _ h in
-    let b = cond-else (lives s e && (ltb l (L .links) && eqb (s .kind e) (L .from l))) 11 _ (a .1) in
-    let c = cond-some (filled (s .held (cell e l))) 12 _ (b .1) in
+    let a = cond-some (waits (s .waiting)) refusal.Waiting _ h in
+    let b = cond-else (lives s e && (ltb l (L .links) && eqb (s .kind e) (L .from l))) refusal.NotLiving _ (a .1) in
+    let c = cond-some (filled (s .held (cell e l))) refusal.Filled _ (b .1) in
     let p = Rattle.std.proofs.shelf.Tests.and-parts (lives s e) (ltb l (L .links) && eqb (s .kind e) (L .from l)) (b .0) in
     let q = p .1 in
     (lives-use e (p .0), (grind (arith, tells)), (grind (arith, tells)), empty-since (s .held (cell e l)) (c .0))
 
   pub rule-tests : (e i : ℕ) → rule-fault L s e i ≡ None → In-use s e × (i < L .rules) × (s .kind e ≡ L .first i)
   rule-tests e i h =
-    let a = cond-some (waits (s .waiting)) 10 _ h in
-    let b = cond-else (lives s e && (ltb i (L .rules) && eqb (s .kind e) (L .first i))) 11 _ (a .1) in
+    let a = cond-some (waits (s .waiting)) refusal.Waiting _ h in
+    let b = cond-else (lives s e && (ltb i (L .rules) && eqb (s .kind e) (L .first i))) refusal.NotLiving _ (a .1) in
     let p = Rattle.std.proofs.shelf.Tests.and-parts (lives s e) (ltb i (L .rules) && eqb (s .kind e) (L .first i)) (b .0) in
     let q = p .1 in
     (lives-use e (p .0), (grind (arith, tells)), (grind (arith, tells)))
 
   pub link-tests : (i r : ℕ) → link-fault L s i r ≡ None → (i < L .source-links) × (r < L .count (L .source-from i))
   link-tests i r h =
-    let a = cond-some (waits (s .waiting)) 10 _ h in
-    let b = cond-else (ltb i (L .source-links) && ltb r (L .count (L .source-from i))) 11 _ (a .1) in
+    let a = cond-some (waits (s .waiting)) refusal.Waiting _ h in
+    let b = cond-else (ltb i (L .source-links) && ltb r (L .count (L .source-from i))) refusal.NotLiving _ (a .1) in
     let q = b .0 in
     ((grind (arith, tells)), (grind (arith, tells)))
 
   sweep-tests : sweep-fault s ≡ None → s .waiting ≡ []
-  sweep-tests h = none-waits (s .waiting) (cond-some (waits (s .waiting)) 10 None h .0)
+  sweep-tests h = none-waits (s .waiting) (cond-some (waits (s .waiting)) refusal.Waiting None h .0)
 
 pub apply-good : (L : Loaded) → Accepted L → (o : Op) (s : State) → Good L s → Good L (apply L o s)
 apply-good L acc (land k r) s g = unless-cases (Good L) (land-fault L s k r) s (born (L .kind-map k) (landing k r) s) g

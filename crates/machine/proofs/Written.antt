@@ -9,6 +9,7 @@ use lib.Dec.{eqb}
 use Rattle.std.proofs.shelf.Tests.{cases-eq}
 use Rattle.std.specs.declared.option.Option.{Option}
 use Rattle.std.specs.declared.option.Option.the-variants.{Some, None}
+use Rattle.words.specs.declared.faults.Refusal.the-variants as refusal
 use Rattle.machine.specs.Loaded.{Loaded}
 use Rattle.machine.specs.State.{Slot, cell, landing, State, start, on, waits}
 use Rattle.machine.specs.Merging.{chase, meet}
@@ -165,11 +166,11 @@ one-table L acc b c cs ds p q =
 
 nothing-left : (o : Option Op) → unfinished o ≡ None → o ≡ None
 nothing-left None e = refl
-nothing-left (Some o) e = absurd (some-none 15 (Some 15) refl e)
+nothing-left (Some o) e = absurd (let z : _≡_ {A = ℕ} 0 1 = cc in omega arith)
 
 pub finish-accepts : Finish-accepts
 finish-accepts L acc cs =
   let d = complete-when-done L acc cs in
   let s = calls L cs start in
-  ((λ e. d .0 (nothing-left (next L (calls L cs start)) (cond-some (waits (calls L cs start .waiting)) 10 (unfinished (next L (calls L cs start))) e .1))),
-   (λ c. ap (λ ws. cond (waits ws) (Some 10) (unfinished (next L (calls L cs start)))) (c .quiet) ∙ ap unfinished (d .1 c)))
+  ((λ e. d .0 (nothing-left (next L (calls L cs start)) (cond-some (waits (calls L cs start .waiting)) refusal.Waiting (unfinished (next L (calls L cs start))) e .1))),
+   (λ c. ap (λ ws. cond (waits ws) (Some refusal.Waiting) (unfinished (next L (calls L cs start)))) (c .quiet) ∙ ap unfinished (d .1 c)))

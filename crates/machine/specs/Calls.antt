@@ -5,29 +5,31 @@ use Prim.Native.Nat.{ℕ}
 use lib.Dec.{eqb, ltb}
 use Rattle.std.specs.declared.option.Option.{Option}
 use Rattle.std.specs.declared.option.Option.the-variants.{Some, None}
+use Rattle.words.specs.declared.faults.Refusal.{Refusal}
+use Rattle.words.specs.declared.faults.Refusal.the-variants as refusal
 use Rattle.machine.specs.Loaded.{Loaded}
 use Rattle.machine.specs.State.{cell, landing, State, filled, waits, lives, born}
 use Rattle.machine.specs.Checking.{effect, rule-effect, link-effect}
 use Rattle.machine.specs.Settling.{settled}
 use Rattle.machine.specs.Sweeping.{swept}
 
-abbrev pub land-fault : Loaded → State → ℕ → ℕ → Option ℕ
-land-fault L s k r = cond (waits (s .waiting)) (Some 10) (cond (ltb k (L .source-kinds) && ltb r (L .count k)) (cond (filled (s .held (landing k r))) (Some 12) (cond (ltb (s .given) (L .capacity)) None (Some 13))) (Some 11))
+abbrev pub land-fault : Loaded → State → ℕ → ℕ → Option Refusal
+land-fault L s k r = cond (waits (s .waiting)) (Some refusal.Waiting) (cond (ltb k (L .source-kinds) && ltb r (L .count k)) (cond (filled (s .held (landing k r))) (Some refusal.Filled) (cond (ltb (s .given) (L .capacity)) None (Some refusal.Full))) (Some refusal.NotLiving))
 
-abbrev pub define-fault : Loaded → State → ℕ → ℕ → Option ℕ
-define-fault L s e l = cond (waits (s .waiting)) (Some 10) (cond (lives s e && (ltb l (L .links) && eqb (s .kind e) (L .from l))) (cond (filled (s .held (cell e l))) (Some 12) (cond (ltb (s .given) (L .capacity)) None (Some 13))) (Some 11))
+abbrev pub define-fault : Loaded → State → ℕ → ℕ → Option Refusal
+define-fault L s e l = cond (waits (s .waiting)) (Some refusal.Waiting) (cond (lives s e && (ltb l (L .links) && eqb (s .kind e) (L .from l))) (cond (filled (s .held (cell e l))) (Some refusal.Filled) (cond (ltb (s .given) (L .capacity)) None (Some refusal.Full))) (Some refusal.NotLiving))
 
-abbrev pub rule-fault : Loaded → State → ℕ → ℕ → Option ℕ
-rule-fault L s e i = cond (waits (s .waiting)) (Some 10) (cond (lives s e && (ltb i (L .rules) && eqb (s .kind e) (L .first i))) None (Some 11))
+abbrev pub rule-fault : Loaded → State → ℕ → ℕ → Option Refusal
+rule-fault L s e i = cond (waits (s .waiting)) (Some refusal.Waiting) (cond (lives s e && (ltb i (L .rules) && eqb (s .kind e) (L .first i))) None (Some refusal.NotLiving))
 
-abbrev pub link-fault : Loaded → State → ℕ → ℕ → Option ℕ
-link-fault L s i r = cond (waits (s .waiting)) (Some 10) (cond (ltb i (L .source-links) && ltb r (L .count (L .source-from i))) None (Some 11))
+abbrev pub link-fault : Loaded → State → ℕ → ℕ → Option Refusal
+link-fault L s i r = cond (waits (s .waiting)) (Some refusal.Waiting) (cond (ltb i (L .source-links) && ltb r (L .count (L .source-from i))) None (Some refusal.NotLiving))
 
-abbrev pub settle-fault : State → Option ℕ
-settle-fault s = cond (waits (s .waiting)) None (Some 14)
+abbrev pub settle-fault : State → Option Refusal
+settle-fault s = cond (waits (s .waiting)) None (Some refusal.NoneWaits)
 
-abbrev pub sweep-fault : State → Option ℕ
-sweep-fault s = cond (waits (s .waiting)) (Some 10) None
+abbrev pub sweep-fault : State → Option Refusal
+sweep-fault s = cond (waits (s .waiting)) (Some refusal.Waiting) None
 
 pub data Op : Type 0 where
   land : ℕ → ℕ → Op
@@ -37,7 +39,7 @@ pub data Op : Type 0 where
   settle : Op
   sweep : Op
 
-abbrev pub unless : Option ℕ → State → State → State
+abbrev pub unless : Option Refusal → State → State → State
 unless None s after = after
 unless (Some n) s after = s
 

@@ -4,6 +4,7 @@ use mathlib.Core.List.{List, [], _∷_}
 use Prim.Native.Nat.{ℕ, zero, suc, _+_, _%_}
 use Rattle.std.specs.declared.option.Option.{Option}
 use Rattle.std.specs.declared.option.Option.the-variants.{Some, None}
+use Rattle.words.specs.declared.faults.Refusal.the-variants as refusal
 use Rattle.machine.specs.Loaded.{Loaded}
 use Rattle.machine.specs.State.{Slot, cell, landing, State}
 use Rattle.machine.specs.Calls.{define-fault}
@@ -57,6 +58,6 @@ Examples = record {
   e3 : ends-so (with-rules 0 (λ i. []) (λ i. []) 1 2) 2 2 (Some full) (λ s. s .waiting ≡ []);
   e4 : ends-so E4 2 5 (Some complete) (λ s. (s .held (landing 0 0) ≡ Some 0) × (s .held (cell 0 0) ≡ Some 0) × (s .forward 1 ≡ 0) × (s .held (cell 1 0) ≡ None) × (s .waiting ≡ []));
   e5 : ends-so E5 1 3 (Some complete) (λ s. (s .held (landing 0 0) ≡ Some 0) × (s .held (landing 0 1) ≡ Some 0) × (s .held (landing 1 0) ≡ Some 0));
-  e9 : define-fault (with-rules 0 (λ i. []) (λ i. []) 1 2) (shift (with-rules 0 (λ i. []) (λ i. []) 1 2) 20 (begun 100) .state) 0 0 ≡ Some 12;
+  e9 : define-fault (with-rules 0 (λ i. []) (λ i. []) 1 2) (shift (with-rules 0 (λ i. []) (λ i. []) 1 2) 20 (begun 100) .state) 0 0 ≡ Some refusal.Filled;
   e6 : ends-so (with-rules 1 (λ i. 0 ∷ 0 ∷ 0 ∷ []) (λ i. 0 ∷ []) 0 9) 0 0 (Some complete) (λ s. s .waiting ≡ [])
 }

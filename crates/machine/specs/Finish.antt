@@ -7,6 +7,8 @@ use lib.Dec.{eqb}
 use lib.ListN.{length}
 use Rattle.std.specs.declared.option.Option.{Option}
 use Rattle.std.specs.declared.option.Option.the-variants.{Some, None}
+use Rattle.words.specs.declared.faults.Refusal.{Refusal}
+use Rattle.words.specs.declared.faults.Refusal.the-variants as refusal
 use Rattle.machine.specs.Loaded.{Loaded}
 use Rattle.machine.specs.State.{Slot, cell, landing, State, start, on, waits}
 use Rattle.machine.specs.Sweeping.{renamed}
@@ -128,12 +130,12 @@ abbrev pub Finish-bounds : Type 0
 Finish-bounds = (L : Loaded) → Accepted L → (cs : List Call) → calls L cs start .waiting ≡ [] → Bounds L (calls L cs start)
 
 -- finish refuses while one waits, and where a step finds something to do
-abbrev pub unfinished : Option Op → Option ℕ
+abbrev pub unfinished : Option Op → Option Refusal
 unfinished None = None
-unfinished (Some o) = Some 15
+unfinished (Some o) = Some refusal.Incomplete
 
-abbrev pub finish-fault : Loaded → State → Option ℕ
-finish-fault L s = cond (waits (s .waiting)) (Some 10) (unfinished (next L s))
+abbrev pub finish-fault : Loaded → State → Option Refusal
+finish-fault L s = cond (waits (s .waiting)) (Some refusal.Waiting) (unfinished (next L s))
 
 -- finish accepts exactly the complete tables
 abbrev pub Finish-accepts : Type 0

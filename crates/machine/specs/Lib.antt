@@ -1,4 +1,6 @@
 pub mod Loaded
+pub mod LoadFaults
+pub mod Loading
 pub mod State
 pub mod Merging
 pub mod Walking
@@ -9,6 +11,7 @@ pub mod Calls
 pub mod Readings
 pub mod Example
 pub mod Sound
+pub mod Tables
 pub mod Shift
 pub mod Complete
 pub mod Sequence

@@ -1,4 +1,6 @@
 // The machine's theorems, each as the contract of a function that does nothing.
+pub mod answers;
+
 ghost use Rattle.machine.specs.Shift.{Invariance-of-calls};
 ghost use Rattle.machine.specs.Shift.{All-reached};
 ghost use Rattle.machine.specs.Shift.{All-kinds};
