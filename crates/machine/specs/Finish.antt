@@ -3,11 +3,16 @@ use mathlib.Core.Path.{_≡_}
 use mathlib.Core.List.{List, [], _∷_, _++_}
 use mathlib.Core.Bool.{Bool, true, false, cond}
 use Prim.Native.Nat.{ℕ, zero, suc, _+_, _*_, _≤_, _<_}
-use lib.Dec.{eqb}
-use lib.ListN.{length}
+use lib.Dec.{eqb, leb}
+use lib.ListN.{length, drop}
 use Rattle.std.specs.declared.option.Option.{Option}
 use Rattle.std.specs.declared.option.Option.the-variants.{Some, None}
+use Rattle.std.specs.declared.result.Result.{Result}
+use Rattle.std.specs.declared.result.Result.the-variants.{Ok, Err}
 use Rattle.words.specs.declared.faults.Refusal.{Refusal}
+use Rattle.words.specs.Register.{File}
+use Rattle.words.specs.Layout.{layout}
+use Rattle.registers.specs.Writing.{upto}
 use Rattle.words.specs.declared.faults.Refusal.the-variants as refusal
 use Rattle.machine.specs.Loaded.{Loaded}
 use Rattle.machine.specs.State.{Slot, cell, landing, State, start, on, waits}
@@ -17,7 +22,6 @@ use Rattle.machine.specs.Readings.{Accepted}
 use Rattle.machine.specs.Shift.{Call, plain, calls, next, shift, begun}
 use Rattle.machine.specs.Complete.{Complete}
 use Rattle.machine.specs.Sequence.{sequence}
-use Rattle.machine.specs.Example.{E1, E2}
 
 -- how many of xs have the kind k
 unfoldable pub tally : (ℕ → ℕ) → ℕ → List ℕ → ℕ
@@ -55,47 +59,18 @@ lead-of L s l n = on (s .held (cell (entry L s (L .from l) n) l)) 0 (number L s)
 abbrev pub at-of : Loaded → State → ℕ → ℕ → ℕ
 at-of L s k r = on (s .held (landing k r)) 0 (number L s)
 
--- The words of a register with landings.
-abbrev pub word : ℕ → ℕ → ℕ
-word tag rest = tag * 0x1000_0000 + rest
+-- The register file that it gives, with a landings word for each source kind.
+abbrev pub register-file : Loaded → (ℕ → ℕ) → (ℕ → ℕ → ℕ) → (ℕ → ℕ → ℕ) → File
+register-file L count lead at = record {
+  counts = upto count (L .target-kinds);
+  links = upto (λ l. record { from = L .from l; to = L .to l; leads = upto (lead l) (count (L .from l)) }) (L .links);
+  landings = upto (λ k. record { from = k; to = L .kind-map k; leads = upto (at k) (L .count k) }) (L .source-kinds) }
 
-unfoldable pub listing : ℕ → (ℕ → List ℕ) → List ℕ
-listing zero f = []
-listing (suc n) f = listing n f ++ f n
-
-abbrev pub record-words : ℕ → (ℕ → ℕ) → List ℕ
-record-words n f = listing n (λ r. word 0xB (f r) ∷ [])
-
-abbrev pub ended-words : List ℕ → List ℕ
-ended-words ws = ws ++ (word 7 (length ws) ∷ [])
-
-abbrev pub register-words : Loaded → (ℕ → ℕ) → (ℕ → ℕ → ℕ) → (ℕ → ℕ → ℕ) → List ℕ
-register-words L count lead at = ended-words (word 8 (L .target-kinds) ∷ (
-  listing (L .target-kinds) (λ k. word 9 (count k) ∷ []) ++ (
-  listing (L .links) (λ l. word 0xA (L .from l * 256 + L .to l) ∷ record-words (count (L .from l)) (lead l)) ++
-  listing (L .source-kinds) (λ k. word 0xC (L .count k * 65536 + (k * 256 + L .kind-map k)) ∷ record-words (L .count k) (at k)))))
+abbrev pub finished-file : Loaded → State → File
+finished-file L s = register-file L (count-of L s) (lead-of L s) (at-of L s)
 
 abbrev pub finish-words : Loaded → State → List ℕ
-finish-words L s = register-words L (count-of L s) (lead-of L s) (at-of L s)
-
-abbrev pub Finish-example : Type 0
-Finish-example = finish-words E2 (shift E2 20 (begun 100) .state) ≡ 0x8000_0001 ∷ 0x9000_0003 ∷ 0xA000_0000 ∷ 0xB000_0001 ∷ 0xB000_0002 ∷ 0xB000_0001 ∷ 0xC001_0000 ∷ 0xB000_0000 ∷ 0x7000_0008 ∷ []
-
--- E1 by other calls: its landings are numbered the other way round, and the words are the same
-abbrev pub other-calls : List Call
-other-calls = plain (land 0 5) ∷ plain (land 0 4) ∷ plain (check-link 0 3) ∷ plain (check-link 0 2) ∷ plain (check-link 0 1) ∷ plain (check-link 0 0) ∷ []
-
-abbrev pub E1-words : List ℕ
-E1-words = 0x8000_0001 ∷ 0x9000_0002 ∷ 0xC006_0000 ∷ 0xB000_0000 ∷ 0xB000_0001 ∷ 0xB000_0000 ∷ 0xB000_0001 ∷ 0xB000_0000 ∷ 0xB000_0001 ∷ 0x7000_0009 ∷ []
-
-abbrev pub Order-example : Type 0
-Order-example = record {
-  accepted : Accepted E1;
-  complete : next E1 (calls E1 other-calls start) ≡ None;
-  differs : (calls E1 other-calls start .held (landing 0 0) ≡ Some 1) × (shift E1 20 (begun 100) .state .held (landing 0 0) ≡ Some 0);
-  words : finish-words E1 (calls E1 other-calls start) ≡ E1-words;
-  same : finish-words E1 (shift E1 20 (begun 100) .state) ≡ E1-words
-}
+finish-words L s = layout (finished-file L s)
 
 abbrev pub with-capacity : ℕ → Loaded → Loaded
 with-capacity c L = record {
@@ -136,6 +111,15 @@ unfinished (Some o) = Some refusal.Incomplete
 
 abbrev pub finish-fault : Loaded → State → Option Refusal
 finish-fault L s = cond (waits (s .waiting)) (Some refusal.Waiting) (unfinished (next L s))
+
+-- words at the front of the output; what lies behind them stays
+abbrev pub put-words : Option Refusal → List ℕ → List ℕ → Result ℕ Refusal × List ℕ
+put-words (Some f) ws out = (Err f, out)
+put-words None ws out = cond (leb (length ws) (length out)) (Ok (length ws), ws ++ drop (length ws) out) (Err refusal.Memory, out)
+
+-- the answer of finish, and the output after it
+abbrev pub finish : Loaded → State → List ℕ → Result ℕ Refusal × List ℕ
+finish L s out = put-words (finish-fault L s) (finish-words L s) out
 
 -- finish accepts exactly the complete tables
 abbrev pub Finish-accepts : Type 0

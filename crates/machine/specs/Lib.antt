@@ -17,3 +17,4 @@ pub mod Complete
 pub mod Sequence
 pub mod Finish
 pub mod Universal
+pub mod Promise
