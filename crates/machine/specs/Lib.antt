@@ -17,4 +17,5 @@ pub mod Complete
 pub mod Sequence
 pub mod Finish
 pub mod Universal
+pub mod Progress
 pub mod Promise
