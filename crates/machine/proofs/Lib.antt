@@ -1,4 +1,3 @@
-pub mod Examples
 pub mod Base
 pub mod Wide
 pub mod Closed
@@ -17,6 +16,7 @@ pub mod Capacity
 pub mod Own
 pub mod Twins
 pub mod Entries
+pub mod Upto
 pub mod Written
 pub mod Register
 pub mod Bounds

@@ -12,7 +12,7 @@ use Rattle.machine.specs.Readings.{Accepted, Joins, along, worth, Receiver, Pl
 use Rattle.machine.specs.Sound.{Mem}
 use Rattle.machine.specs.Shift.{calls}
 use Rattle.machine.specs.Sequence.{Numbers, sequence}
-use Rattle.machine.specs.Finish.{tally, before, entry-in, number, entry, count-of, lead-of, at-of, register-words, finish-words}
+use Rattle.machine.specs.Finish.{tally, before, entry-in, number, entry, count-of, lead-of, at-of}
 use Rattle.machine.specs.Universal.{Maps, Universal, Extends, Finish-extends}
 use Rattle.machine.proofs.Base.{chase-fix, chase-keeps, end-forward}
 use Rattle.machine.proofs.Closed.{one-reading}

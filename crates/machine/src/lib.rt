@@ -8,8 +8,7 @@ ghost use Rattle.machine.specs.Shift.{All-room, All-within};
 ghost use Rattle.machine.specs.Complete.{Complete-when-done};
 ghost use Rattle.machine.specs.Complete.{Complete-keeps};
 ghost use Rattle.machine.specs.Sequence.{All-numbered};
-ghost use Rattle.machine.specs.Example.{Examples};
-ghost use Rattle.machine.specs.Finish.{Finish-example, One-finish, One-table, Finish-bounds, Finish-accepts, Order-example};
+ghost use Rattle.machine.specs.Finish.{One-finish, One-table, Finish-bounds, Finish-accepts};
 ghost use Rattle.machine.specs.Universal.{Finish-extends};
 
 pub fn invariance_stands() -> u8
@@ -20,12 +19,6 @@ pub fn invariance_stands() -> u8
 
 pub fn reached_stands() -> u8
     ensures { λ _. ⌜ All-reached ⌝ }
-{
-    0
-}
-
-pub fn examples_stand() -> u8
-    ensures { λ _. ⌜ Examples ⌝ }
 {
     0
 }
@@ -60,12 +53,6 @@ pub fn numbered_stands() -> u8
     0
 }
 
-pub fn finish_example_stands() -> u8
-    ensures { λ _. ⌜ Finish-example ⌝ }
-{
-    0
-}
-
 pub fn one_finish_stands() -> u8
     ensures { λ _. ⌜ One-finish ⌝ }
 {
@@ -92,12 +79,6 @@ pub fn bounds_stand() -> u8
 
 pub fn one_table_stands() -> u8
     ensures { λ _. ⌜ One-table ⌝ }
-{
-    0
-}
-
-pub fn order_example_stands() -> u8
-    ensures { λ _. ⌜ Order-example ⌝ }
 {
     0
 }
