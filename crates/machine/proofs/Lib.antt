@@ -20,3 +20,5 @@ pub mod Upto
 pub mod Written
 pub mod Register
 pub mod Bounds
+pub mod Limits
+pub mod ReadBack

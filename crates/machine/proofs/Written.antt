@@ -1,8 +1,8 @@
 -- Two complete tables of one load are finished with the same words. Assumes nothing.
-use mathlib.Core.Path.{_≡_, refl, sym, ap, subst, _∙_}
+use mathlib.Core.Path.{_≡_, refl, sym, ap, _∙_}
 use mathlib.Core.List.{List, [], _∷_, map}
 use mathlib.Core.Bool.{Bool, true, false, cond}
-use mathlib.Core.Logic.{_⊎_, inl, inr}
+use mathlib.Core.Logic.{inl, inr}
 use Prim.Native.Nat.{ℕ, zero, suc, _<_}
 use native.Mathlib.Omega.{arith}
 use lib.Dec.{eqb}
@@ -21,15 +21,14 @@ use Rattle.machine.specs.Readings.{Accepted}
 use Rattle.machine.specs.Shift.{Call, calls, next}
 use Rattle.machine.specs.Complete.{Complete}
 use Rattle.machine.specs.Sequence.{sequence}
-use Rattle.machine.specs.Finish.{tally, before, first-or, entry-in, number, entry, count-of, lead-of, at-of, register-file, finish-words, with-capacity, One-finish, Alike, One-table, unfinished, finish-fault, Finish-accepts}
+use Rattle.machine.specs.Finish.{tally, before, first-or, entry-in, number, entry, count-of, lead-of, at-of, register-file, finish-words, with-capacity, One-finish, Alike, One-table, unfinished, Finish-accepts}
 use Rattle.machine.proofs.Upto.{upto-same}
 use Rattle.machine.proofs.Numbering.{grown-fine}
 use Rattle.machine.proofs.Runs.{cond-some, calls-good, calls-kinds, start-good, start-kinds}
-use Rattle.machine.proofs.Fill.{some-none}
 use Rattle.machine.proofs.Finished.{complete-when-done}
 use Rattle.machine.proofs.Capacity.{Whole, whole-of, accepted-at}
 use Rattle.machine.proofs.Own.{Living, held-living}
-use Rattle.machine.proofs.Entries.{entry-yes, entry-no, tally-yes, tally-no, first-or-case, entry-each, before-each}
+use Rattle.machine.proofs.Entries.{entry-yes, entry-no, tally-yes, tally-no, entry-each, before-each}
 use Rattle.machine.proofs.Twins.{carry, carry-living, round-is, held-same, image, Kept, Each, fine-each, to, kind-kept, test-kept, slot-kept, sequence-same}
 
 -- rows between the same kinds that lead alike

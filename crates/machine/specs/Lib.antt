@@ -16,4 +16,5 @@ pub mod Complete
 pub mod Sequence
 pub mod Finish
 pub mod Universal
+pub mod ReadBack
 pub mod Promise
