@@ -7,6 +7,8 @@ pub mod Check
 pub mod Settle
 pub mod Sweep
 pub mod Runs
+pub mod Tests
+pub mod Loads
 pub mod Typed
 pub mod Finished
 pub mod Count
