@@ -25,11 +25,12 @@ use Rattle.machine.specs.Readings.{Accepted, Receiver, Placing}
 use Rattle.machine.specs.Shift.{Call, calls}
 use Rattle.machine.specs.Complete.{Complete}
 use Rattle.machine.specs.Finish.{number, entry, count-of, lead-of, register-file, finished-file, finish-words, Bounds}
-use Rattle.machine.specs.ReadBack.{shown, Reads-back}
+use Rattle.machine.specs.ReadBack.{shown, Reads-back, Finish-reads-back}
 use Rattle.machine.proofs.Capacity.{Whole}
 use Rattle.machine.proofs.Upto.{upto-length, upto-at, upto-all}
-use Rattle.machine.proofs.Limits.{Limits}
-use Rattle.machine.proofs.Written.{whole-calls}
+use Rattle.machine.proofs.Loads.{accepted}
+use Rattle.machine.proofs.Limits.{Limits, load-limits}
+use Rattle.machine.proofs.Written.{whole-calls, finish-accepts}
 use Rattle.machine.proofs.Register.{entry-is, extends}
 use Rattle.machine.proofs.Bounds.{finish-bounds}
 
@@ -111,7 +112,7 @@ module _ (L : Loaded) (acc : Accepted L) (s : State) (a : Whole L s) (b : Bounds
     count = λ k. count-shown k i;
     follow = λ l n. follow-shown l n i }
 
-pub reads-back : (L : Loaded) → Accepted L → Limits L → (cs : List Call) → Complete L (calls L cs start) → Reads-back L (calls L cs start)
+reads-back : (L : Loaded) → Accepted L → Limits L → (cs : List Call) → Complete L (calls L cs start) → Reads-back L (calls L cs start)
 reads-back L acc lim cs d =
   let s = calls L cs start in
   let a = whole-calls L acc cs d in
@@ -121,3 +122,8 @@ reads-back L acc lim cs d =
   record {
     accepted = layout-read (finish-words L s) (finished-file L s) (refl, subst Well-formed (λ i. register-file L (e .counts i) (e .leads i) (e .places i)) w);
     means = answers-shown L acc s a b }
+
+pub finish-reads-back : Finish-reads-back
+finish-reads-back work ws m L e cs f =
+  let acc = accepted work ws m L e in
+  reads-back L acc (load-limits work ws m L e) cs (finish-accepts L acc cs .0 f)

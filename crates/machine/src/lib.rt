@@ -10,6 +10,7 @@ ghost use Rattle.machine.specs.Complete.{Complete-keeps};
 ghost use Rattle.machine.specs.Sequence.{All-numbered};
 ghost use Rattle.machine.specs.Finish.{One-finish, One-table, Finish-bounds, Finish-accepts};
 ghost use Rattle.machine.specs.Universal.{Finish-extends};
+ghost use Rattle.machine.specs.ReadBack.{Finish-reads-back};
 
 pub fn invariance_stands() -> u8
     ensures { λ _. ⌜ Invariance-of-calls ⌝ }
@@ -85,6 +86,12 @@ pub fn one_table_stands() -> u8
 
 pub fn finish_accepts_stands() -> u8
     ensures { λ _. ⌜ Finish-accepts ⌝ }
+{
+    0
+}
+
+pub fn reads_back_stands() -> u8
+    ensures { λ _. ⌜ Finish-reads-back ⌝ }
 {
     0
 }
