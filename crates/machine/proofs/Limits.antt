@@ -1,5 +1,5 @@
 -- What an accepted load keeps within the limits of a register file.
-use mathlib.Core.Path.{sym, _≡_, subst}
+use mathlib.Core.Path.{_≡_, sym, subst}
 use mathlib.Core.List.{List}
 use mathlib.Core.Logic.{⊎-elim}
 use Prim.Native.Nat.{ℕ, zero, suc, _≤_, _<_}
@@ -8,8 +8,8 @@ use Rattle.std.proofs.shelf.Tests.{cases-lt}
 use Rattle.std.specs.declared.result.Result.the-variants.{Ok}
 use Rattle.registers.specs.Meaning.{Meaning}
 use Rattle.machine.specs.Loaded.{Loaded}
-use Rattle.machine.proofs.Loads.{loads}
 use Rattle.machine.specs.Loading.{sum, load}
+use Rattle.machine.proofs.Loads.{loads}
 
 pub record Limits (L : Loaded) : Type 0 where
   pub kinds : L .target-kinds ≤ 32
@@ -18,6 +18,7 @@ pub record Limits (L : Loaded) : Type 0 where
   pub source-kinds : L .source-kinds ≤ 32
   pub records : (k : ℕ) → k < L .source-kinds → L .count k ≤ 4095
 
+-- each part is at most the sum
 sum-part : (f : ℕ → ℕ) (n k : ℕ) → k < n → f k ≤ sum f n
 unfolding sum
 sum-part f zero k h = absurd (omega arith)

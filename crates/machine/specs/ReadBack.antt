@@ -2,15 +2,16 @@
 use mathlib.Core.Path.{_≡_}
 use mathlib.Core.List.{List}
 use mathlib.Core.Bool.{cond}
-use Prim.Native.Nat.{ℕ}
+use Prim.Native.Nat.{ℕ, _<_}
 use lib.Dec.{ltb}
+use lib.ListN.{getD}
 use Rattle.std.specs.declared.option.Option.the-variants.{Some, None}
 use Rattle.std.specs.declared.result.Result.the-variants.{Ok}
 use Rattle.words.specs.Register.{read}
-use Rattle.registers.specs.Meaning.{Meaning, answers}
+use Rattle.registers.specs.Meaning.{Meaning, no-row, answers}
 use Rattle.machine.specs.Loaded.{Loaded}
 use Rattle.machine.specs.Loading.{load}
-use Rattle.machine.specs.State.{cell, State, start}
+use Rattle.machine.specs.State.{cell, landing, State, start}
 use Rattle.machine.specs.Sweeping.{renamed}
 use Rattle.machine.specs.Shift.{Call, calls}
 use Rattle.machine.specs.Finish.{number, entry, count-of, finished-file, finish-words, finish-fault}
@@ -27,6 +28,8 @@ shown L s = record {
 pub record Reads-back (L : Loaded) (s : State) : Type 0 where
   pub accepted : read (finish-words L s) ≡ Ok (finished-file L s)
   pub means : answers (finished-file L s) ≡ shown L s
+  -- the landings name the entries that the source records landed on
+  pub lands : (k r : ℕ) → k < L .source-kinds → r < L .count k → Some (getD (getD (finished-file L s .landings) k no-row .leads) r 0) ≡ renamed (number L s) (s .held (landing k r))
 
 -- After every accepted load and every list of calls, what finish writes is read back as the register that the table shows.
 abbrev pub Finish-reads-back : Type 0
