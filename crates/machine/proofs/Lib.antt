@@ -1,4 +1,3 @@
-pub mod Examples
 pub mod Base
 pub mod Wide
 pub mod Closed
@@ -8,6 +7,8 @@ pub mod Check
 pub mod Settle
 pub mod Sweep
 pub mod Runs
+pub mod Tests
+pub mod Loads
 pub mod Typed
 pub mod Finished
 pub mod Count
@@ -17,6 +18,9 @@ pub mod Capacity
 pub mod Own
 pub mod Twins
 pub mod Entries
+pub mod Upto
 pub mod Written
 pub mod Register
 pub mod Bounds
+pub mod Limits
+pub mod ReadBack

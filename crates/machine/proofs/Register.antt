@@ -1,10 +1,8 @@
 -- The finished register is a receiver, its landings a placing, and it is universal. Assumes nothing.
 use mathlib.Core.Path.{_≡_, refl, sym, ap, subst, _∙_}
 use mathlib.Core.List.{List, [], _∷_}
-use Prim.Native.Nat.{ℕ, zero, suc, _≤_, _<_}
-use native.Mathlib.Omega.{arith}
-use Rattle.std.specs.declared.option.Option.{Option}
-use Rattle.std.specs.declared.option.Option.the-variants.{Some, None}
+use Prim.Native.Nat.{ℕ, _<_}
+use Rattle.std.specs.declared.option.Option.the-variants.{Some}
 use Rattle.machine.specs.Loaded.{Loaded}
 use Rattle.machine.specs.State.{Slot, cell, landing, State, start, on}
 use Rattle.machine.specs.Merging.{end}
@@ -12,15 +10,15 @@ use Rattle.machine.specs.Readings.{Accepted, Joins, along, worth, Receiver, Pl
 use Rattle.machine.specs.Sound.{Mem}
 use Rattle.machine.specs.Shift.{calls}
 use Rattle.machine.specs.Sequence.{Numbers, sequence}
-use Rattle.machine.specs.Finish.{tally, before, entry-in, number, entry, count-of, lead-of, at-of, register-words, finish-words}
-use Rattle.machine.specs.Universal.{Maps, Universal, Extends, Finish-extends}
+use Rattle.machine.specs.Finish.{tally, before, number, entry, count-of, lead-of, at-of}
+use Rattle.machine.specs.Universal.{Maps, Extends, Finish-extends}
 use Rattle.machine.proofs.Base.{chase-fix, chase-keeps, end-forward}
 use Rattle.machine.proofs.Closed.{one-reading}
 use Rattle.machine.proofs.Numbering.{numbers}
 use Rattle.machine.proofs.Capacity.{Whole}
 use Rattle.machine.proofs.Own.{Living, content, held-living, end-living, own, own-placing, parts-has}
 use Rattle.machine.proofs.Sweep.{use-lives}
-use Rattle.machine.proofs.Twins.{Each, each-of}
+use Rattle.machine.proofs.Twins.{each-of}
 use Rattle.machine.proofs.Entries.{entry-each, entry-kind, entry-number, number-entry, number-below, nth-mem, distinct-of}
 use Rattle.machine.proofs.Written.{whole-calls}
 

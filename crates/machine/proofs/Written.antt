@@ -1,79 +1,52 @@
 -- Two complete tables of one load are finished with the same words. Assumes nothing.
-use mathlib.Core.Path.{_≡_, refl, sym, ap, subst, _∙_}
-use mathlib.Core.List.{List, [], _∷_, _++_, map}
+use mathlib.Core.Path.{_≡_, refl, sym, ap, _∙_}
+use mathlib.Core.List.{List, [], _∷_, map}
 use mathlib.Core.Bool.{Bool, true, false, cond}
-use mathlib.Core.Logic.{_⊎_, inl, inr}
-use Prim.Native.Nat.{ℕ, zero, suc, _+_, _*_, _<_}
+use mathlib.Core.Logic.{inl, inr}
+use Prim.Native.Nat.{ℕ, zero, suc, _<_}
 use native.Mathlib.Omega.{arith}
 use lib.Dec.{eqb}
 use Rattle.std.proofs.shelf.Tests.{cases-eq}
 use Rattle.std.specs.declared.option.Option.{Option}
 use Rattle.std.specs.declared.option.Option.the-variants.{Some, None}
 use Rattle.words.specs.declared.faults.Refusal.the-variants as refusal
+use Rattle.words.specs.Register.{Row}
+use Rattle.words.specs.Layout.{layout}
+use Rattle.registers.specs.Writing.{upto}
 use Rattle.machine.specs.Loaded.{Loaded}
 use Rattle.machine.specs.State.{Slot, cell, landing, State, start, on, waits}
-use Rattle.machine.specs.Merging.{chase, meet}
-use Rattle.machine.specs.Walking.{walk}
-use Rattle.machine.specs.Settling.{drain, pull, take-over}
-use Rattle.machine.specs.Sweeping.{renamed, rank, pick}
-use Rattle.machine.specs.Calls.{run, Op}
+use Rattle.machine.specs.Sweeping.{renamed}
+use Rattle.machine.specs.Calls.{Op}
 use Rattle.machine.specs.Readings.{Accepted}
-use Rattle.machine.specs.Shift.{Call, calls, next, step, shift, lowest}
+use Rattle.machine.specs.Shift.{Call, calls, next}
 use Rattle.machine.specs.Complete.{Complete}
-use Rattle.machine.specs.Sequence.{member, nth, of-kind, of-landings, of-cells, grown, sequence}
-use Rattle.machine.specs.Finish.{tally, before, first-or, entry-in, number, entry, count-of, lead-of, at-of, word, listing, record-words, ended-words, register-words, finish-words, Finish-example, Order-example, with-capacity, One-finish, Alike, One-table, unfinished, finish-fault, Finish-accepts}
+use Rattle.machine.specs.Sequence.{sequence}
+use Rattle.machine.specs.Finish.{tally, before, first-or, entry-in, number, entry, count-of, lead-of, at-of, register-file, finish-words, with-capacity, One-finish, Alike, One-table, unfinished, Finish-accepts}
+use Rattle.machine.proofs.Upto.{upto-same}
 use Rattle.machine.proofs.Numbering.{grown-fine}
 use Rattle.machine.proofs.Runs.{cond-some, calls-good, calls-kinds, start-good, start-kinds}
-use Rattle.machine.proofs.Fill.{some-none}
 use Rattle.machine.proofs.Finished.{complete-when-done}
 use Rattle.machine.proofs.Capacity.{Whole, whole-of, accepted-at}
 use Rattle.machine.proofs.Own.{Living, held-living}
-use Rattle.machine.proofs.Entries.{entry-yes, entry-no, tally-yes, tally-no, first-or-case, entry-each, before-each}
+use Rattle.machine.proofs.Entries.{entry-yes, entry-no, tally-yes, tally-no, entry-each, before-each}
 use Rattle.machine.proofs.Twins.{carry, carry-living, round-is, held-same, image, Kept, Each, fine-each, to, kind-kept, test-kept, slot-kept, sequence-same}
 
-pub finish-example : Finish-example
-unfolding step shift lowest run walk chase drain pull take-over meet rank pick member nth of-kind of-landings of-cells grown tally before entry-in listing
-finish-example = refl
+-- rows between the same kinds that lead alike
+abbrev rows : (ℕ → ℕ) → (ℕ → ℕ) → (ℕ → ℕ → ℕ) → (ℕ → ℕ) → ℕ → List Row
+rows from to lead size = upto (λ l. record { from = from l; to = to l; leads = upto (lead l) (size l) })
 
-pub order-example : Order-example
-unfolding calls step shift lowest run walk chase drain pull take-over meet rank pick member nth of-kind of-landings of-cells grown tally before entry-in listing
-order-example = record {
-  accepted = record {
-    from-known = λ l h. absurd (omega (arith, h)); to-known = λ l h. absurd (omega (arith, h)); map-known = λ k h. omega arith;
-    from-in = λ i h. omega arith; to-in = λ i h. omega arith; lead-in = λ i r h q. omega arith;
-    left-in = λ i h. tt; right-in = λ i h. tt; one-end = λ i h. refl; map-in = λ i h. tt; map-end = λ i h. refl
-  };
-  complete = refl;
-  differs = (refl, refl);
-  words = refl;
-  same = refl
-}
-
--- listings agree that agree at each number below the end
-listing-same : (n : ℕ) (f g : ℕ → List ℕ) → ((i : ℕ) → i < n → f i ≡ g i) → listing n f ≡ listing n g
-unfolding listing
-listing-same zero f g h = refl
-listing-same (suc n) f g h = ap (λ ws. ws ++ f n) (listing-same n f g (λ i q. h i (omega (arith, q)))) ∙ ap (λ ws. listing n g ++ ws) (h n (omega arith))
-
-records-same : (n : ℕ) (f g : ℕ → ℕ) → ((i : ℕ) → i < n → f i ≡ g i) → record-words n f ≡ record-words n g
-records-same n f g h = listing-same n (λ r. word 0xB (f r) ∷ []) (λ r. word 0xB (g r) ∷ []) (λ i q. ap (λ m. word 0xB m ∷ []) (h i q))
+rows-same : (from to : ℕ → ℕ) (lead lead′ : ℕ → ℕ → ℕ) (size size′ : ℕ → ℕ) (n : ℕ) →
+  ((l : ℕ) → size l ≡ size′ l) → ((l r : ℕ) → r < size′ l → lead l r ≡ lead′ l r) → rows from to lead size n ≡ rows from to lead′ size′ n
+rows-same from to lead lead′ size size′ n hs hl =
+  upto-same _ _ n (λ l q i. record { from = from l; to = to l; leads = (ap (upto (lead l)) (hs l) ∙ upto-same (lead l) (lead′ l) (size′ l) (hl l)) i })
 
 register-same : (L : Loaded) (count count′ : ℕ → ℕ) (lead lead′ : ℕ → ℕ → ℕ) (at at′ : ℕ → ℕ → ℕ) →
   ((k : ℕ) → count k ≡ count′ k) → ((l n : ℕ) → n < count′ (L .from l) → lead l n ≡ lead′ l n) → ((k r : ℕ) → at k r ≡ at′ k r) →
-  register-words L count lead at ≡ register-words L count′ lead′ at′
-register-same L count count′ lead lead′ at at′ hc hl ha =
-  let aa = listing (L .target-kinds) (λ k. word 9 (count k) ∷ []) in
-  let a = listing (L .target-kinds) (λ k. word 9 (count′ k) ∷ []) in
-  let bs = listing (L .links) (λ l. word 0xA (L .from l * 256 + L .to l) ∷ record-words (count (L .from l)) (lead l)) in
-  let b = listing (L .links) (λ l. word 0xA (L .from l * 256 + L .to l) ∷ record-words (count′ (L .from l)) (lead′ l)) in
-  let cs = listing (L .source-kinds) (λ k. word 0xC (L .count k * 65536 + (k * 256 + L .kind-map k)) ∷ record-words (L .count k) (at k)) in
-  let c = listing (L .source-kinds) (λ k. word 0xC (L .count k * 65536 + (k * 256 + L .kind-map k)) ∷ record-words (L .count k) (at′ k)) in
-  let p : aa ≡ a = listing-same (L .target-kinds) _ _ (λ k q. ap (λ m. word 9 m ∷ []) (hc k)) in
-  let q : bs ≡ b = listing-same (L .links) _ _ (λ l q. ap (λ ws. word 0xA (L .from l * 256 + L .to l) ∷ ws) (ap (λ m. record-words m (lead l)) (hc (L .from l)) ∙ records-same (count′ (L .from l)) (lead l) (lead′ l) (hl l))) in
-  let r : cs ≡ c = listing-same (L .source-kinds) _ _ (λ k q. ap (λ ws. word 0xC (L .count k * 65536 + (k * 256 + L .kind-map k)) ∷ ws) (records-same (L .count k) (at k) (at′ k) (λ i q. ha k i))) in
-  ap (λ ws. ended-words (word 8 (L .target-kinds) ∷ (ws ++ (bs ++ cs)))) p
-  ∙ (ap (λ ws. ended-words (word 8 (L .target-kinds) ∷ (a ++ (ws ++ cs)))) q
-  ∙ ap (λ ws. ended-words (word 8 (L .target-kinds) ∷ (a ++ (b ++ ws)))) r)
+  register-file L count lead at ≡ register-file L count′ lead′ at′
+register-same L count count′ lead lead′ at at′ hc hl ha = λ i. record {
+  counts = upto-same count count′ (L .target-kinds) (λ k q. hc k) i;
+  links = rows-same (L .from) (L .to) lead lead′ (λ l. count (L .from l)) (λ l. count′ (L .from l)) (L .links) (λ l. hc (L .from l)) hl i;
+  landings = rows-same (λ k. k) (L .kind-map) at at′ (L .count) (L .count) (L .source-kinds) (λ k. refl) (λ k r q. ha k r) i }
 
 module _ (L : Loaded) (acc : Accepted L) (c : ℕ) (s z : State) (a : Whole L s) (b : Whole (with-capacity c L) z) where
   abbrev M : Loaded
@@ -136,10 +109,10 @@ module _ (L : Loaded) (acc : Accepted L) (c : ℕ) (s z : State) (a : Whole L s)
     ∙ slot-same (cell (entry L s (L .from l) n) l) (entry-each (Living s) (s .kind) (L .from l) (sequence L s) n all-live h)
 
   pub words-same : finish-words M z ≡ finish-words L s
-  words-same = register-same L (count-of M z) (count-of L s) (lead-of M z) (lead-of L s) (at-of M z) (at-of L s)
+  words-same = ap layout (register-same L (count-of M z) (count-of L s) (lead-of M z) (lead-of L s) (at-of M z) (at-of L s)
     (λ k. ap (tally (z .kind) k) (sequence-same L acc c s z a b) ∙ tally-map k (sequence L s) all-live)
     lead-same
-    (λ k r. slot-same (landing k r) tt)
+    (λ k r. slot-same (landing k r) tt))
 
 pub whole-calls : (L : Loaded) → Accepted L → (cs : List Call) → Complete L (calls L cs start) → Whole L (calls L cs start)
 whole-calls L acc cs d = record { good = calls-good L acc cs start (start-good L); kinds = calls-kinds L acc cs start (start-good L) (start-kinds L); complete = d }

@@ -1,8 +1,8 @@
 -- What finish writes. Assumes nothing.
 use mathlib.Core.Path.{_≡_}
 use mathlib.Core.List.{List, [], _∷_, _++_}
-use mathlib.Core.Bool.{Bool, true, false, cond}
-use Prim.Native.Nat.{ℕ, zero, suc, _+_, _*_, _≤_, _<_}
+use mathlib.Core.Bool.{cond}
+use Prim.Native.Nat.{ℕ, zero, suc, _≤_, _<_}
 use lib.Dec.{eqb, leb}
 use lib.ListN.{length, drop}
 use Rattle.std.specs.declared.option.Option.{Option}
@@ -15,11 +15,11 @@ use Rattle.words.specs.Layout.{layout}
 use Rattle.registers.specs.Writing.{upto}
 use Rattle.words.specs.declared.faults.Refusal.the-variants as refusal
 use Rattle.machine.specs.Loaded.{Loaded}
-use Rattle.machine.specs.State.{Slot, cell, landing, State, start, on, waits}
+use Rattle.machine.specs.State.{cell, landing, State, start, on, waits}
 use Rattle.machine.specs.Sweeping.{renamed}
-use Rattle.machine.specs.Calls.{Op, land, check-link}
+use Rattle.machine.specs.Calls.{Op}
 use Rattle.machine.specs.Readings.{Accepted}
-use Rattle.machine.specs.Shift.{Call, plain, calls, next, shift, begun}
+use Rattle.machine.specs.Shift.{Call, calls, next}
 use Rattle.machine.specs.Complete.{Complete}
 use Rattle.machine.specs.Sequence.{sequence}
 

@@ -9,7 +9,6 @@ pub mod Settling
 pub mod Sweeping
 pub mod Calls
 pub mod Readings
-pub mod Example
 pub mod Sound
 pub mod Tables
 pub mod Shift
@@ -18,4 +17,5 @@ pub mod Sequence
 pub mod Finish
 pub mod Universal
 pub mod Progress
+pub mod ReadBack
 pub mod Promise

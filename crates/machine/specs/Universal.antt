@@ -2,12 +2,13 @@
 use mathlib.Core.Path.{_≡_}
 use mathlib.Core.List.{List}
 use Prim.Native.Nat.{ℕ, _<_}
+use Rattle.words.specs.Layout.{layout}
 use Rattle.machine.specs.Loaded.{Loaded}
 use Rattle.machine.specs.State.{State, start}
 use Rattle.machine.specs.Readings.{Accepted, Receiver, Placing}
 use Rattle.machine.specs.Shift.{Call, calls}
 use Rattle.machine.specs.Complete.{Complete}
-use Rattle.machine.specs.Finish.{count-of, lead-of, at-of, register-words, finish-words}
+use Rattle.machine.specs.Finish.{count-of, lead-of, at-of, register-file, finish-words}
 
 -- A map of receivers gives each counted record of a kind a counted record of that kind; it keeps step with the links and takes one placing to the other.
 pub record Maps (L : Loaded) (R : Receiver L) (P : Placing L R) (S : Receiver L) (Q : Placing L S) (h : ℕ → ℕ → ℕ) : Type 0 where
@@ -29,7 +30,7 @@ pub record Extends (L : Loaded) (s : State) : Type 0 where
   pub counts : register .count ≡ count-of L s
   pub leads : register .lead ≡ lead-of L s
   pub places : placing .at ≡ at-of L s
-  pub writes : finish-words L s ≡ register-words L (register .count) (register .lead) (placing .at)
+  pub writes : finish-words L s ≡ layout (register-file L (register .count) (register .lead) (placing .at))
   pub universal : Universal L register placing
 
 abbrev pub Finish-extends : Type 0

@@ -8,9 +8,9 @@ ghost use Rattle.machine.specs.Shift.{All-room, All-within};
 ghost use Rattle.machine.specs.Complete.{Complete-when-done};
 ghost use Rattle.machine.specs.Complete.{Complete-keeps};
 ghost use Rattle.machine.specs.Sequence.{All-numbered};
-ghost use Rattle.machine.specs.Example.{Examples};
-ghost use Rattle.machine.specs.Finish.{Finish-example, One-finish, One-table, Finish-bounds, Finish-accepts, Order-example};
+ghost use Rattle.machine.specs.Finish.{One-finish, One-table, Finish-bounds, Finish-accepts};
 ghost use Rattle.machine.specs.Universal.{Finish-extends};
+ghost use Rattle.machine.specs.ReadBack.{Finish-reads-back};
 
 pub fn invariance_stands() -> u8
     ensures { λ _. ⌜ Invariance-of-calls ⌝ }
@@ -20,12 +20,6 @@ pub fn invariance_stands() -> u8
 
 pub fn reached_stands() -> u8
     ensures { λ _. ⌜ All-reached ⌝ }
-{
-    0
-}
-
-pub fn examples_stand() -> u8
-    ensures { λ _. ⌜ Examples ⌝ }
 {
     0
 }
@@ -60,12 +54,6 @@ pub fn numbered_stands() -> u8
     0
 }
 
-pub fn finish_example_stands() -> u8
-    ensures { λ _. ⌜ Finish-example ⌝ }
-{
-    0
-}
-
 pub fn one_finish_stands() -> u8
     ensures { λ _. ⌜ One-finish ⌝ }
 {
@@ -96,14 +84,14 @@ pub fn one_table_stands() -> u8
     0
 }
 
-pub fn order_example_stands() -> u8
-    ensures { λ _. ⌜ Order-example ⌝ }
+pub fn finish_accepts_stands() -> u8
+    ensures { λ _. ⌜ Finish-accepts ⌝ }
 {
     0
 }
 
-pub fn finish_accepts_stands() -> u8
-    ensures { λ _. ⌜ Finish-accepts ⌝ }
+pub fn reads_back_stands() -> u8
+    ensures { λ _. ⌜ Finish-reads-back ⌝ }
 {
     0
 }
