@@ -9,6 +9,7 @@ pub mod Sweep
 pub mod Runs
 pub mod Tests
 pub mod Loads
+pub mod Promised
 pub mod Typed
 pub mod Finished
 pub mod Count
