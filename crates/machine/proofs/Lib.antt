@@ -4,10 +4,12 @@ pub mod Wide
 pub mod Closed
 pub mod Merge
 pub mod Fill
+pub mod Kept
 pub mod Check
 pub mod Settle
 pub mod Sweep
 pub mod Runs
+pub mod Lost
 pub mod Typed
 pub mod Finished
 pub mod Count

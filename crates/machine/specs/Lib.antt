@@ -13,6 +13,7 @@ pub mod Example
 pub mod Sound
 pub mod Tables
 pub mod Shift
+pub mod Lost
 pub mod Complete
 pub mod Sequence
 pub mod Finish
