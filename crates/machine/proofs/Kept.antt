@@ -97,7 +97,7 @@ module _ (s : State) (lower : (x : ℕ) → s .forward x ≤ x) where
 
 -- filling an empty slot, with an old entry or a new one
 module _ (s : State) (t : Slot) (none : s .held t ≡ None) where
-  pub put-kept : (o : Option ℕ) (u : Slot) (w : ℕ) → s .held u ≡ Some w → put t o (s .held) u ≡ Some w
+  put-kept : (o : Option ℕ) (u : Slot) (w : ℕ) → s .held u ≡ Some w → put t o (s .held) u ≡ Some w
   put-kept o u w e = put-there t o (s .held) u (λ q. some-none w (s .held t) (sym (ap (s .held) q) ∙ e) none) ∙ e
 
   pub fill-kept : (a : ℕ) → Kept s (hold t (Some a) s) (λ x. x)

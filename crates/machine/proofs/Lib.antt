@@ -22,3 +22,4 @@ pub mod Entries
 pub mod Written
 pub mod Register
 pub mod Bounds
+pub mod Refused

@@ -18,4 +18,5 @@ pub mod Complete
 pub mod Sequence
 pub mod Finish
 pub mod Universal
+pub mod Refused
 pub mod Promise

@@ -12,6 +12,7 @@ ghost use Rattle.machine.specs.Example.{Examples};
 ghost use Rattle.machine.specs.Finish.{Finish-example, One-finish, One-table, Finish-bounds, Finish-accepts, Order-example};
 ghost use Rattle.machine.specs.Universal.{Finish-extends};
 ghost use Rattle.machine.specs.Lost.{Nothing-lost, Never-lost};
+ghost use Rattle.machine.specs.Refused.{Refusals-change-nothing};
 
 pub fn invariance_stands() -> u8
     ensures { λ _. ⌜ Invariance-of-calls ⌝ }
@@ -117,6 +118,12 @@ pub fn nothing_lost_stands() -> u8
 
 pub fn never_lost_stands() -> u8
     ensures { λ _. ⌜ Never-lost ⌝ }
+{
+    0
+}
+
+pub fn refusals_stand() -> u8
+    ensures { λ _. ⌜ Refusals-change-nothing ⌝ }
 {
     0
 }
