@@ -3,6 +3,7 @@ pub mod Wide
 pub mod Closed
 pub mod Merge
 pub mod Fill
+pub mod Kept
 pub mod Check
 pub mod Settle
 pub mod Sweep
@@ -10,6 +11,7 @@ pub mod Runs
 pub mod Tests
 pub mod Loads
 pub mod Promised
+pub mod Lost
 pub mod Typed
 pub mod Finished
 pub mod Count
@@ -25,3 +27,4 @@ pub mod Register
 pub mod Bounds
 pub mod Limits
 pub mod ReadBack
+pub mod Refused

@@ -52,7 +52,7 @@ module _ (L : Loaded) (s : State) where
   pub lives-use : (e : ℕ) → lives s e ≡ true → In-use s e
   lives-use e h = record { below = grind (arith, tells); if-dead = λ d. absurd (d (grind (arith, tells))) }
 
-  land-tests : (k r : ℕ) → land-fault L s k r ≡ None → (k < L .source-kinds) × (r < L .count k) × (s .held (landing k r) ≡ None)
+  pub land-tests : (k r : ℕ) → land-fault L s k r ≡ None → (k < L .source-kinds) × (r < L .count k) × (s .held (landing k r) ≡ None)
   land-tests k r e =
     let a = cond-some (waits (s .waiting)) refusal.Waiting _ e in
     let b = cond-else (ltb k (L .source-kinds) && ltb r (L .count k)) refusal.NotLiving _ (a .1) in
@@ -60,7 +60,7 @@ module _ (L : Loaded) (s : State) where
     let t = b .0 in
     ((grind (arith, tells)), (grind (arith, tells)), empty-since (s .held (landing k r)) (c .0))
 
-  define-tests : (e l : ℕ) → define-fault L s e l ≡ None → In-use s e × (l < L .links) × (s .kind e ≡ L .from l) × (s .held (cell e l) ≡ None)
+  pub define-tests : (e l : ℕ) → define-fault L s e l ≡ None → In-use s e × (l < L .links) × (s .kind e ≡ L .from l) × (s .held (cell e l) ≡ None)
   define-tests e l h =
     let a = cond-some (waits (s .waiting)) refusal.Waiting _ h in
     let b = cond-else (lives s e && (ltb l (L .links) && eqb (s .kind e) (L .from l))) refusal.NotLiving _ (a .1) in

@@ -19,6 +19,7 @@ use Rattle.machine.proofs.Base.{put-cases}
 use Rattle.machine.proofs.Closed.{Closed, Before, closed-all, closed-reach, end-goes, end-comes, end-read}
 use Rattle.machine.proofs.Merge.{end-lives, end-below, end-in-use, merge-sound, merge-closed, merge-joins, merge-read, merge-given, merge-held, merge-dead, merge-front}
 use Rattle.machine.proofs.Fill.{some-same, some-none, put-held, put-here, put-there, hold-in-use, hold-owner, empty-sound, empty-read, fill-sound, fill-read, fill-closed, fill-fits}
+use Rattle.machine.proofs.Kept.{Kept, place, still, kept-none, kept-then, end-end, merge-one-end, merge-kept, fill-kept}
 use Rattle.machine.proofs.Check.{on-cases}
 use Rattle.machine.proofs.Ranks.{merge-room}
 use Rattle.machine.specs.Shift.{Room}
@@ -40,12 +41,13 @@ pub record Moved (L : Loaded) (s z : State) : Type 0 where
   pub read : (R : Receiver L) (P : Placing L R) (ρ : ℕ → ℕ) → Reading L R P s ρ → Reading L R P z ρ
   pub reach : (x : ℕ) → Reach s x → Reach z x
   pub room : Room s → Room z
+  pub kept : Kept s z (λ x. x)
 
 moved-none : (L : Loaded) (s : State) → Moved L s s
-moved-none L s = record { given = refl; read = λ R P ρ d. d; reach = λ x q. q; room = λ r. r }
+moved-none L s = record { given = refl; read = λ R P ρ d. d; reach = λ x q. q; room = λ r. r; kept = kept-none s }
 
 moved-then : (L : Loaded) (s y z : State) → Moved L s y → Moved L y z → Moved L s z
-moved-then L s y z a b = record { given = b .given ∙ a .given; read = λ R P ρ d. b .read R P ρ (a .read R P ρ d); reach = λ x q. b .reach x (a .reach x q); room = λ r. b .room (a .room r) }
+moved-then L s y z a b = record { given = b .given ∙ a .given; read = λ R P ρ d. b .read R P ρ (a .read R P ρ d); reach = λ x q. b .reach x (a .reach x q); room = λ r. b .room (a .room r); kept = kept-then s y z (λ x. x) (λ x. x) (a .kept) (b .kept) }
 
 cell-entry : (e d l k : ℕ) → cell e l ≡ cell d k → e ≡ d
 cell-entry e d l k q = cc
@@ -130,6 +132,15 @@ module _ (L : Loaded) (v n : ℕ) (s : State) (hn : n < L .links) (d : Draining 
     back : (Q : ℕ → Type 0) → Closed Q bare → (Q u → Q w) → Closed Q s
     back Q k f = empty-closed s (cell v n) c held Q k (λ q. end-comes Q bare k c (f (end-goes Q bare k v q)))
 
+    -- the content of v's cell is found at the living end of v, and the other slots as in bare
+    handed : (z : State) → Kept bare z (λ x. x) → (y : ℕ) → z .held (cell u n) ≡ Some y → end z y ≡ end z w → Kept s z (λ x. x)
+    handed z k y here one = record { numbered = k .numbered; together = k .together; found = λ t x e. elim (put-cases (cell v n) t None (s .held)) [
+        inl q ↦ (cell u n, y, here,
+          ap (λ b. cell b n) (k .together u v (end-end s (d .sound .lower) v)) ∙ ap (place z (λ b. b)) (sym (q .0)),
+          one ∙ k .together w x (end-end s (d .sound .lower) c ∙ ap (end s) (some-same c x (s .held t) (ap (s .held) (q .0) ∙ held) e)))
+      | inr q ↦ k .found t x (q .1 ∙ e)
+      ] }
+
     when-empty : bare .held (cell u n) ≡ None → Pulled (hold (cell u n) (Some w) bare)
     unfolding Pulled
     when-empty none = (fill-draining L v (suc n) bare bare-ok u n w u-use hn u-not w-use w-not, record {
@@ -139,7 +150,8 @@ module _ (L : Loaded) (v n : ℕ) (s : State) (hn : n < L .links) (d : Draining 
       reach = λ x q.
         let z : State = hold (cell u n) (Some w) bare in
         let k = closed-reach z in
-        closed-all (back (Reach z) (fill-closed L bare (cell u n) w none (Reach z) k) (fill-fits L bare (cell u n) w (Reach z) k)) q
+        closed-all (back (Reach z) (fill-closed L bare (cell u n) w none (Reach z) k) (fill-fits L bare (cell u n) w (Reach z) k)) q;
+      kept = handed (hold (cell u n) (Some w) bare) (fill-kept bare (cell u n) none w) w (put-here (cell u n) (Some w) (bare .held)) refl
     })
 
     when-full : (e : ℕ) → bare .held (cell u n) ≡ Some e → Pulled (merge e w bare)
@@ -157,7 +169,8 @@ module _ (L : Loaded) (v n : ℕ) (s : State) (hn : n < L .links) (d : Draining 
           let z : State = merge e w bare in
           let k = closed-reach z in
           let m = merge-closed L bare (bare-ok .sound) e w he hw (Reach z) k in
-          closed-all (back (Reach z) m (λ y. merge-joins L bare (bare-ok .sound) e w he hw (Reach z) k .0 (m .fits (cell u n) e full y))) q
+          closed-all (back (Reach z) m (λ y. merge-joins L bare (bare-ok .sound) e w he hw (Reach z) k .0 (m .fits (cell u n) e full y))) q;
+        kept = handed (merge e w bare) (merge-kept bare (d .sound .lower) e w) e (ap (λ h. h (cell u n)) (merge-held L bare (bare-ok .sound) e w he hw) ∙ full) (merge-one-end bare (d .sound .lower) e w)
       })
 
     taken : Pulled (take-over u n w bare)
@@ -228,7 +241,11 @@ module _ (L : Loaded) (s : State) (v : ℕ) (ok : Sound L s) (hv : v < s .given)
           inl p ↦ subst (Reach moved) (sym p) (end-comes (Reach moved) moved k v (k .fits t (end s v) (ap (swap v (end s v)) (e ∙ ap Some p) ∙ swap-here v (end s v)) b))
         | inr p ↦ k .fits t w (ap (swap v (end s v)) e ∙ swap-there v (end s v) w p) b
         ] } in
-      closed-all c q
+      closed-all c q;
+    kept = record { numbered = λ x h. h; together = λ x y q. q; found = λ t w e. elim (cases-eq w v) [
+        inl p ↦ (t, end s v, ap (swap v (end s v)) (e ∙ ap Some p) ∙ swap-here v (end s v), refl, end-end s (ok .lower) v ∙ ap (end s) (sym p))
+      | inr p ↦ still moved t w (ap (swap v (end s v)) e ∙ swap-there v (end s v) w p)
+      ] }
   }
 
   pub rehold-draining : (s .forward v ≡ v → ⊥) → ((ws : List ℕ) × (s .waiting ≡ v ∷ ws)) → Draining L v 0 moved
@@ -275,7 +292,8 @@ module _ (L : Loaded) (v : ℕ) (s : State) (d : Draining L v (L .links) s) wher
     reach = λ x q.
       let k = closed-reach (pop s) in
       let c : Closed (Reach (pop s)) s = record { goes = k .goes; comes = k .comes; fits = k .fits } in
-      closed-all c q
+      closed-all c q;
+    kept = record { numbered = λ x h. h; together = λ x y q. q; found = still (pop s) }
   }
 
 moved-good : (L : Loaded) (s z : State) → Good L s → Sound L z → Moved L s z → Good L z

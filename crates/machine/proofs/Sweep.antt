@@ -19,6 +19,8 @@ use Rattle.machine.proofs.Wide.{Receiver, Placing, Reading, Good}
 use Rattle.machine.proofs.Base.{chase-fix, end-forward}
 use Rattle.machine.proofs.Closed.{Closed, Before, closed-all, closed-reach}
 use Rattle.machine.proofs.Fill.{some-same, some-none}
+use Rattle.machine.proofs.Merge.{end-in-use}
+use Rattle.machine.proofs.Kept.{Found, Kept}
 use Rattle.machine.proofs.Ranks.{rank-live, rank-dead}
 
 module _ (f : ℕ → ℕ) where
@@ -89,6 +91,9 @@ module _ (L : Loaded) (s : State) (g : Good L s) (none : s .waiting ≡ []) wher
   pub use-lives : (x : ℕ) → In-use s x → f x ≡ x
   use-lives x u = elim (cases-eq (f x) x) [ inl e ↦ e | inr e ↦ (let m : Mem x [] = subst (Mem x) none (u .if-dead e) in elim m [ ]) ]
 
+  pub use-end : (x : ℕ) → In-use s x → end s x ≡ x
+  use-end x u = chase-fix f x x (use-lives x u)
+
   pub use-rank : (x : ℕ) → In-use s x → rank f x < G
   use-rank x u = rank-less f x (s .given) (use-lives x u) (u .below)
 
@@ -103,6 +108,13 @@ module _ (L : Loaded) (s : State) (g : Good L s) (none : s .waiting ≡ []) wher
   cell-was n l y e =
     let a = when-some (ltb n G) (renamed (rank f) (s .held (cell (pick f (s .given) n) l))) y e in
     (ltb-true n G (a .0), renamed-held (rank f) (s .held (cell (pick f (s .given) n) l)) y (a .1))
+
+  -- what a cell holds now
+  cell-now : (e l w : ℕ) → s .held (cell e l) ≡ Some w → swept-held s (cell (rank f e) l) ≡ Some (rank f w)
+  cell-now e l w q =
+    let u = g .sound .used (cell e l) w q .1 .0 in
+    cond-true (ltb (rank f e) G) (renamed (rank f) (s .held (cell (pick f (s .given) (rank f e)) l))) None (lt-ltb (rank f e) G (use-rank e u))
+      ∙ ap (renamed (rank f)) (ap (λ x. s .held (cell x l)) (use-pick e u) ∙ q)
 
   now-use : (x : ℕ) → x < G → In-use (swept s) x
   now-use x h = record { below = h; if-dead = λ d. absurd (d refl) }
@@ -156,11 +168,7 @@ module _ (L : Loaded) (s : State) (g : Good L s) (none : s .waiting ≡ []) wher
   old-fits : (t : Slot) (w : ℕ) → s .held t ≡ Some w → Before Old t → Old w
   old-fits (cell e l) w q b =
     let u = g .sound .used (cell e l) w q in
-    let p = use-pick e (u .1 .0) in
-    let h : swept-held s (cell (rank f e) l) ≡ Some (rank f w) =
-      cond-true (ltb (rank f e) G) (renamed (rank f) (s .held (cell (pick f (s .given) (rank f e)) l))) None (lt-ltb (rank f e) G (use-rank e (u .1 .0)))
-        ∙ ap (renamed (rank f)) (ap (λ x. s .held (cell x l)) p ∙ q) in
-    old-to w (use-lives w (u .0)) (closed-reach (swept s) .fits (cell (rank f e) l) (rank f w) h (old-from e (use-lives e (u .1 .0)) b))
+    old-to w (use-lives w (u .0)) (closed-reach (swept s) .fits (cell (rank f e) l) (rank f w) (cell-now e l w q) (old-from e (use-lives e (u .1 .0)) b))
   old-fits (landing k r) w q b =
     let u = g .sound .used (landing k r) w q in
     old-to w (use-lives w (u .0)) (closed-reach (swept s) .fits (landing k r) (rank f w) (ap (renamed (rank f)) q) tt)
@@ -180,4 +188,19 @@ module _ (L : Loaded) (s : State) (g : Good L s) (none : s .waiting ≡ []) wher
     reached = λ n h.
       let p = picked n h in
       subst (Reach (swept s)) (p .ranked) (old-from (pick f (s .given) n) (p .live) (closed-all old-closed (g .reached (pick f (s .given) n) (p .below))))
+  }
+
+  swept-found : (t : Slot) (w : ℕ) → s .held t ≡ Some w → Found (swept s) (λ x. rank f (end s x)) t w
+  swept-found (cell e l) w q =
+    let u = g .sound .used (cell e l) w q in
+    (cell (rank f e) l, rank f w, cell-now e l w q, ap (λ x. cell (end (swept s) (rank f x)) l) (sym (use-end e (u .1 .0))), ap (λ x. end (swept s) (rank f x)) (sym (use-end w (u .0))))
+  swept-found (landing k r) w q =
+    let u = g .sound .used (landing k r) w q in
+    (landing k r, rank f w, ap (renamed (rank f)) q, refl, ap (λ x. end (swept s) (rank f x)) (sym (use-end w (u .0))))
+
+  pub swept-kept : Kept s (swept s) (λ x. rank f (end s x))
+  swept-kept = record {
+    numbered = λ x h. use-rank (end s x) (end-in-use L s (g .sound) x h);
+    together = λ x y q. ap (λ a. end (swept s) (rank f a)) q;
+    found = swept-found
   }

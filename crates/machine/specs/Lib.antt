@@ -12,10 +12,12 @@ pub mod Readings
 pub mod Sound
 pub mod Tables
 pub mod Shift
+pub mod Lost
 pub mod Complete
 pub mod Sequence
 pub mod Finish
 pub mod Universal
 pub mod Progress
 pub mod ReadBack
+pub mod Refused
 pub mod Promise

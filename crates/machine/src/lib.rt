@@ -11,6 +11,8 @@ ghost use Rattle.machine.specs.Sequence.{All-numbered};
 ghost use Rattle.machine.specs.Finish.{One-finish, One-table, Finish-bounds, Finish-accepts};
 ghost use Rattle.machine.specs.Universal.{Finish-extends};
 ghost use Rattle.machine.specs.ReadBack.{Finish-reads-back};
+ghost use Rattle.machine.specs.Lost.{Nothing-lost, Never-lost};
+ghost use Rattle.machine.specs.Refused.{Refusals-change-nothing};
 
 pub fn invariance_stands() -> u8
     ensures { λ _. ⌜ Invariance-of-calls ⌝ }
@@ -92,6 +94,16 @@ pub fn finish_accepts_stands() -> u8
 
 pub fn reads_back_stands() -> u8
     ensures { λ _. ⌜ Finish-reads-back ⌝ }
+pub fn nothing_lost_stands() -> u8
+    ensures { λ _. ⌜ Nothing-lost ⌝ }
+{
+    0
+pub fn never_lost_stands() -> u8
+    ensures { λ _. ⌜ Never-lost ⌝ }
+{
+    0
+pub fn refusals_stand() -> u8
+    ensures { λ _. ⌜ Refusals-change-nothing ⌝ }
 {
     0
 }
