@@ -1,203 +1,206 @@
--- Items stand in the words as they are laid out.
-use mathlib.Core.Path.{_≡_, refl, sym, ap, subst, _∙_}
-use mathlib.Core.Bool.{Bool, true, false, cond, _&&_}
+-- Each item stands in the words as it is laid out, and is read where it stands.
+use mathlib.Core.Path.{_≡_, refl, ap, subst, _∙_}
+use mathlib.Core.Bool.{Bool, true, false, cond, _||_}
 use mathlib.Core.List.{List, [], _∷_, _++_, map}
-use Prim.Native.Nat.{ℕ, zero, suc, _+_, _-_, _*_, _/_, _%_, _<_, _≤_}
+use Prim.Native.Nat.{ℕ, _+_, _*_, _/_, _%_, _<_, _≤_}
 use native.Mathlib.Omega.{arith}
-use native.Mathlib.Nat.{add-zero, zero-add}
 use lib.Dec.{ltb, eqb}
-use lib.ListN.{length, getD, take, drop}
+use lib.ListN.{length}
+use Rattle.std.proofs.shelf.Lists.{length-map}
 use Rattle.std.proofs.shelf.Ways.{tells}
-use Rattle.std.specs.shelf.Lists.{All, joined}
-use Rattle.std.specs.declared.result.Result.{Result}
 use Rattle.std.specs.declared.result.Result.the-variants.{Ok, Err}
-use Rattle.words.specs.declared.faults.SchemaFault.{SchemaFault}
 use Rattle.words.specs.declared.faults.SchemaFault.the-variants.{Words, Unknown, Unjoined}
-use Rattle.words.specs.declared.faults.WordFault.the-variants.{Missing, Wrong, Limit}
+use Rattle.words.specs.declared.faults.WordFault.the-variants.{Limit}
 use Rattle.words.specs.Words.{word, worded, then, starts}
-use Rattle.words.specs.Register.{end}
 use Rattle.words.specs.Tags.{tagged}
 use Rattle.words.proofs.Inverse.{then-ok, worded-ok, if-ok, else-ok}
-use Rattle.words.proofs.Single.{Stood, word-told}
-use Rattle.words.proofs.Standing.{Stands, none, join, one, stood-stands, whole}
-use Rattle.std.proofs.shelf.Lists.{length-map}
-use Rattle.words.specs.Items.{items, sizes}
-use Rattle.problems.specs.Problem.{Link, Rule, Problem, no-link, schema, link, links, path, rule, rules, rule-size, one-word, path-size, whole-schema, kind-mapped, kind-maps, link-mapped, link-maps, read}
-use Rattle.problems.specs.Places.{Walks, Rule-stands}
-use Rattle.problems.specs.Layout.{link-words, rule-words, kind-words, map-words, numbered, schema-words, before-end, layout, Good-link, Good-schema, Good-rule, Good-map, Maps, Well-formed, Read-layouts}
-use Rattle.words.proofs.Items.{items-zero, items-split, items-length, items-full, more-one}
+use Rattle.words.proofs.Single.{word-told, word-read}
+use Rattle.words.proofs.Standing.{Stands, join, front, back, stood-stands, stands-stood, stands-starts}
+use Rattle.words.proofs.Laid.{ok-same, more-some}
+use Rattle.problems.specs.Problem.{Link, Rule, link-of, link, path, meeting, paths, rule-of, rule, rule-size, path-size, kind-of, kind-mapped, begins, stops, arriving, map-of, link-mapped}
+use Rattle.problems.specs.Layout.{link-words, rule-words, kind-words, map-words, Walks, Good-link, Good-rule, Good-map}
 use Rattle.problems.proofs.Paths.{link-told, path-length}
-use Rattle.problems.proofs.Schemas.{schema-told}
-use Rattle.problems.proofs.Standings.{path-stands, path-walks, rule-stands}
-use Rattle.problems.proofs.Pathing.{part-stands}
-use Rattle.problems.proofs.Mapping.{Kind-read, kind-told, maps-length}
-use Rattle.problems.proofs.Problems.{Problem-read, problem-told, ok-same}
-use Rattle.problems.proofs.Tokening.{stands-inside}
+use Rattle.problems.proofs.Ruling.{rule-is}
+use Rattle.problems.proofs.Mapping.{kind-told, map-is-path}
+use Rattle.problems.proofs.Walking.{path-stands, path-walks, path-made}
 use Rattle.words.specs.declared.tags.Tag.the-variants as tag
 
--- items with the room that each has
-module _ {X : Type 0} (size : X → ℕ) (more : ℕ → ℕ → Bool) (f : ℕ → ℕ → Result X SchemaFault) (ws : List ℕ) where
-  items-joined : (lay : X → List ℕ) → ((room at : ℕ) (x : X) → f room at ≡ Ok x → Stands ws at (lay x) (at + size x)) → (m at : ℕ) (xs : List X) → items size more f m at ≡ Ok xs
-    → Stands ws at (joined lay xs) (at + sizes size xs)
-  items-joined lay each zero at xs e = rw (items-zero size more f at xs e, add-zero) (none ws at)
-  items-joined lay each (suc m) at [] e = rw add-zero (none ws at)
-  items-joined lay each (suc m) at (x ∷ xs) e =
-      let s = items-split size more f m at x xs e in
-      let q : at + size x + sizes size xs ≡ at + (size x + sizes size xs) = omega arith in
-      rw (← q) (join ws at (at + size x) (at + size x + sizes size xs) (lay x) (joined lay xs) (each (suc m) at x (s .1)) (items-joined lay each m (at + size x) xs (s .2)))
+-- links
+module _ (kinds : ℕ) (ws : List ℕ) where
+  pub link-stands : (n room at : ℕ) (l : Link) → n + room ≡ 64 → link kinds ws room at ≡ Ok l → Stands ws at (link-words l) (at + 1)
+  link-stands n room at l t e = stood-stands tag.Link ws at (l .from * 256 + l .to) (word-told tag.Link ws at (l .from * 256 + l .to) (link-told kinds ws room at l e .head))
 
-  items-all : (P : X → Type 0) → ((room at : ℕ) (x : X) → f room at ≡ Ok x → P x) → (m at : ℕ) (xs : List X) → items size more f m at ≡ Ok xs → All P xs
-  items-all P each zero at xs e = rw (items-zero size more f at xs e) tt
-  items-all P each (suc m) at [] e = tt
-  items-all P each (suc m) at (x ∷ xs) e = let s = items-split size more f m at x xs e in (each (suc m) at x (s .1), items-all P each m (at + size x) xs (s .2))
+  pub link-good : (n room at : ℕ) (l : Link) → n + room ≡ 64 → link kinds ws room at ≡ Ok l → Good-link kinds l
+  link-good n room at l t e = let r = link-told kinds ws room at l e in record { from-known = r .from-known; to-known = r .to-known }
 
-  items-numbered : (total : ℕ) (lay : ℕ → X → List ℕ) → ((n room at : ℕ) (x : X) → n + room ≡ total → f room at ≡ Ok x → Stands ws at (lay n x) (at + size x)) → (m n at : ℕ) (xs : List X) → n + m ≡ total → items size more f m at ≡ Ok xs
-    → Stands ws at (numbered lay n xs) (at + sizes size xs)
-  items-numbered total lay each zero n at xs h e = rw (items-zero size more f at xs e, add-zero) (none ws at)
-  items-numbered total lay each (suc m) n at [] h e = rw add-zero (none ws at)
-  items-numbered total lay each (suc m) n at (x ∷ xs) h e =
-      let s = items-split size more f m at x xs e in
-      let q : at + size x + sizes size xs ≡ at + (size x + sizes size xs) = omega arith in
-      rw (← q) (join ws at (at + size x) (at + size x + sizes size xs) (lay n x) (numbered lay (n + 1) xs) (each n (suc m) at x h (s .1)) (items-numbered total lay each m (n + 1) (at + size x) xs (omega arith) (s .2)))
+  pub link-read : kinds ≤ 32 → (n room at b : ℕ) (l : Link) → n + room ≡ 64 → 0 < room → Good-link kinds l → Stands ws at (link-words l) b → (link kinds ws room at ≡ Ok l) × (starts tag.Link ws at ≡ true)
+  link-read few n room at b l t h g s =
+      let v = l .from * 256 + l .to in
+      let w : v < 65536 = omega (arith, g .from-known, g .to-known) in
+      let f : v / 256 ≡ l .from = omega (arith, g .to-known) in
+      let o : v % 256 ≡ l .to = omega (arith, g .to-known) in
+      let x : v / 256 < kinds = rw f (g .from-known) in
+      let y : v % 256 < kinds = rw o (g .to-known) in (
+        ap (λ r. then (worded r) (link-of kinds room at)) (word-read tag.Link ws at v (stands-stood tag.Link ws at b v [] w s))
+            ∙ pass room at v h x y
+            ∙ ap (λ a. Ok (record { from = a; to = v % 256 })) f ∙ ap (λ a. Ok (record { from = l .from; to = a })) o,
+        stands-starts tag.Link ws at b v [] (omega arith) s,
+      )
+    where
+      pass : (room at v : ℕ) → 0 < room → v / 256 < kinds → v % 256 < kinds → link-of kinds room at v ≡ Ok (record { from = v / 256; to = v % 256 })
+      pass room at v h x y = grind (arith, tells)
 
--- each item where it stands
-link-stands : (kinds : ℕ) (ws : List ℕ) (room at : ℕ) (l : Link) → link kinds ws room at ≡ Ok l → Stands ws at (link-words l) (at + 1)
-link-stands kinds ws room at l e = stood-stands tag.Link ws at (l .from * 256 + l .to) (word-told tag.Link ws at (l .from * 256 + l .to) (link-told kinds ws room at l e .head))
+-- rules
+neither : (a b : Bool) → (a || b) ≡ false → (a ≡ false) × (b ≡ false)
+neither false b e = (refl, e)
+neither true b e = absurd (let z : _≡_ {A = Bool} true false = e in let y : _≡_ {A = ℕ} 0 1 = cc in omega arith)
 
-link-good : (kinds : ℕ) (ws : List ℕ) (room at : ℕ) (l : Link) → link kinds ws room at ≡ Ok l → Good-link kinds l
-link-good kinds ws room at l e = let r = link-told kinds ws room at l e in record { from-known = r .from-known; to-known = r .to-known }
+pub record Rule-read (kinds : ℕ) (ts : List Link) (ws : List ℕ) (at : ℕ) (r : Rule) : Type 0 where
+  pub laid : Stands ws at (rule-words r) (at + rule-size r)
+  pub good : Good-rule kinds ts r
 
-rule-laid : (kinds : ℕ) (ts : List Link) (ws : List ℕ) (room at : ℕ) (r : Rule) → rule kinds ts ws room at ≡ Ok r → Stands ws at (rule-words r) (at + rule-size r)
-rule-laid kinds ts ws room at r e =
-    let s = rule-stands kinds ts ws room at r e in
-    let h = stands-inside kinds ts ws at r s in
-    let nl = length (r .left) in
-    let nr = length (r .right) in
-    let v = r .first * 65536 + nl * 256 + nr in
-    let q : at + 1 + nl + nr ≡ at + rule-size r = omega arith in
-    rw (← q) (join ws at (at + 1) (at + 1 + nl + nr) (tagged tag.Rule v ∷ []) (map (tagged tag.Step) (r .left) ++ map (tagged tag.Step) (r .right))
-      (one ws at (tagged tag.Rule v) (omega arith) (s .head))
-      (join ws (at + 1) (at + 1 + nl) (at + 1 + nl + nr) (map (tagged tag.Step) (r .left)) (map (tagged tag.Step) (r .right))
-        (part-stands ws (map (tagged tag.Step) (r .left)) (at + 1) nl (length-map (r .left) (tagged tag.Step)) (s .left-part))
-        (part-stands ws (map (tagged tag.Step) (r .right)) (at + 1 + nl) nr (length-map (r .right) (tagged tag.Step)) (s .right-part))))
+module _ (kinds : ℕ) (ts : List Link) (ws : List ℕ) where
+  pub rule-told : (room at : ℕ) (r : Rule) → rule kinds ts ws room at ≡ Ok r → Rule-read kinds ts ws at r
+  rule-told room at r e =
+      let x = then-ok (worded (word tag.Rule ws at)) (rule-of kinds ts ws room at) r e in
+      let v = x .0 in
+      let f = v / 65536 in
+      let n = v / 256 % 256 in
+      let m = v % 256 in
+      let y = else-ok (eqb room 0 || (ltb 64 n || ltb 64 m)) (cond (ltb f kinds) (paths ts ws at f n m) (Err (Unknown at))) (Words (Limit at)) r (x .2) in
+      let z = if-ok (ltb f kinds) (paths ts ws at f n m) (Unknown at) r (y .1) in
+      let l = then-ok (path ts ws n f (at + 1)) (λ l. then (path ts ws m f (at + 1 + n)) (meeting f (at + n + m) l)) r (z .1) in
+      let q = then-ok (path ts ws m f (at + 1 + n)) (meeting f (at + n + m) (l .0)) r (l .2) in
+      let d = if-ok (eqb (l .0 .1) (q .0 .1)) (Ok (record { first = f; left = l .0 .0; right = q .0 .0 })) (Unjoined (at + n + m)) r (q .2) in
+      let same : r ≡ record { first = f; left = l .0 .0; right = q .0 .0 } = ok-same (d .1) in
+      let s = word-told tag.Rule ws at v (worded-ok (word tag.Rule ws at) v (x .1)) in
+      let nl = path-length ts ws n f (at + 1) (l .0) (l .1) in
+      let nr = path-length ts ws m f (at + 1 + n) (q .0) (q .1) in
+      let b0 = neither (eqb room 0) (ltb 64 n || ltb 64 m) (y .0) in
+      let b1 = neither (ltb 64 n) (ltb 64 m) (b0 .1) in
+      let n64 : n ≤ 64 = let t = b1 .0 in grind (arith, tells) in
+      let m64 : m ≤ 64 = let t = b1 .1 in grind (arith, tells) in
+      let meet : q .0 .1 ≡ l .0 .1 = let t = d .0 in grind (arith, tells) in
+      let vf : v ≡ f * 65536 + length (l .0 .0) * 256 + length (q .0 .0) = omega arith in
+      let far : at + 1 + n + m ≡ at + (1 + length (l .0 .0) + length (q .0 .0)) = omega arith in
+      rw same (record {
+        laid = rw (← vf, ← far) (join ws at (at + 1) (at + 1 + n + m) (tagged tag.Rule v ∷ []) (map (tagged tag.Step) (l .0 .0) ++ map (tagged tag.Step) (q .0 .0))
+            (stood-stands tag.Rule ws at v s)
+            (join ws (at + 1) (at + 1 + n) (at + 1 + n + m) (map (tagged tag.Step) (l .0 .0)) (map (tagged tag.Step) (q .0 .0))
+            (path-stands ts ws n f (at + 1) (l .0) (l .1)) (path-stands ts ws m f (at + 1 + n) (q .0) (q .1))));
+        good = record {
+          known = let t = z .0 in grind (arith, tells);
+          left-short = omega arith;
+          right-short = omega arith;
+          end = l .0 .1;
+          left-walks = path-walks ts ws n f (at + 1) (l .0) (l .1);
+          right-walks = rw meet at (path-walks ts ws m f (at + 1 + n) (q .0) (q .1));
+        };
+      })
 
-rule-good : (kinds : ℕ) (ts : List Link) (ws : List ℕ) (room at : ℕ) (r : Rule) → rule kinds ts ws room at ≡ Ok r → Good-rule kinds ts r
-rule-good kinds ts ws room at r e =
-    let s = rule-stands kinds ts ws room at r e in
-    record { known = s .known; left-short = s .left-short; right-short = s .right-short; end = s .end; left-walks = s .left-walks; right-walks = s .right-walks }
+  paths-made : (at e : ℕ) (r : Rule) → path ts ws (length (r .left)) (r .first) (at + 1) ≡ Ok (r .left, e) → path ts ws (length (r .right)) (r .first) (at + 1 + length (r .left)) ≡ Ok (r .right, e)
+      → paths ts ws at (r .first) (length (r .left)) (length (r .right)) ≡ Ok r
+  paths-made at e r a b =
+      let n = length (r .left) in
+      let m = length (r .right) in
+      let z : eqb e e ≡ true = grind (arith, tells) in
+      ap (λ x. then x (λ l. then (path ts ws m (r .first) (at + 1 + n)) (meeting (r .first) (at + n + m) l))) a
+      ∙ ap (λ x. then x (meeting (r .first) (at + n + m) (r .left, e))) b
+      ∙ ap (λ c. cond c (Ok r) (Err (Unjoined (at + n + m)))) z
 
-kind-laid : (total kinds : ℕ) (ws : List ℕ) (n room at k : ℕ) → n + room ≡ total → kind-mapped total kinds ws room at ≡ Ok k → Stands ws at (kind-words n k) (at + 1)
-kind-laid total kinds ws n room at k h e =
-    let r = kind-told total kinds ws room at k e in
-    let q : r .fields ≡ n * 256 + k = omega (arith, r .numbered, r .is) in
-    stood-stands tag.KindMap ws at (n * 256 + k) (word-told tag.KindMap ws at (n * 256 + k) (r .head ∙ ap Ok q))
+  pub rule-read : kinds ≤ 32 → length ts ≤ 64 → (n room at b : ℕ) (r : Rule) → n + room ≡ 128 → 0 < room → Good-rule kinds ts r → Stands ws at (rule-words r) b → (rule kinds ts ws room at ≡ Ok r) × (starts tag.Rule ws at ≡ true)
+  rule-read few short n room at b r t h g s =
+      let nl = length (r .left) in
+      let nr = length (r .right) in
+      let v = r .first * 65536 + nl * 256 + nr in
+      let w : v < 16777216 = omega (arith, g .known, g .left-short, g .right-short) in
+      let vf : v / 65536 ≡ r .first = omega (arith, g .left-short, g .right-short) in
+      let vl : v / 256 % 256 ≡ nl = omega (arith, g .left-short, g .right-short) in
+      let vr : v % 256 ≡ nr = omega (arith, g .right-short) in
+      let xs = map (tagged tag.Step) (r .left) in
+      let ys = map (tagged tag.Step) (r .right) in
+      let k = back ws at b (tagged tag.Rule v ∷ []) (xs ++ ys) s in
+      let right : Stands ws (at + 1 + nl) ys b = rw (length-map (r .left) (tagged tag.Step)) at (back ws (at + 1) b xs ys k) in (
+        rule-is kinds ts ws room at v (word-read tag.Rule ws at v (stands-stood tag.Rule ws at b v (xs ++ ys) w s)) h (rw vl (g .left-short)) (rw vr (g .right-short)) (rw vf (g .known))
+            ∙ ap (λ a. paths ts ws at a (v / 256 % 256) (v % 256)) vf
+            ∙ ap (λ a. paths ts ws at (r .first) a (v % 256)) vl
+            ∙ ap (λ a. paths ts ws at (r .first) nl a) vr
+            ∙ paths-made at (g .end) r
+            (path-made ts ws (r .left) (r .first) (g .end) (at + 1) (at + 1 + length xs) (omega arith) (g .left-walks) (front ws (at + 1) b xs ys k))
+            (path-made ts ws (r .right) (r .first) (g .end) (at + 1 + nl) b (omega arith) (g .right-walks) right),
+        stands-starts tag.Rule ws at b v (xs ++ ys) (omega arith) s,
+      )
 
--- what an accepted link map says
-record Map-read (ss : List Link) (km : List ℕ) (ts : List Link) (ws : List ℕ) (n at : ℕ) (q : List ℕ) : Type 0 where
-  head : word tag.LinkMap ws at ≡ Ok (n * 256 + length q)
-  good : Good-map ss km ts n q
-  steps : Stands ws (at + 1) (map (tagged tag.Step) q) (at + 1 + length q)
+-- kind maps
+module _ (total kinds : ℕ) (ws : List ℕ) where
+  pub kind-stands : (n room at k : ℕ) → n + room ≡ total → kind-mapped total kinds ws room at ≡ Ok k → Stands ws at (kind-words n k) (at + 1)
+  kind-stands n room at k h e =
+      let r = kind-told total kinds ws room at k e in
+      let q : r .fields ≡ n * 256 + k = omega (arith, r .numbered, r .is) in
+      stood-stands tag.KindMap ws at (n * 256 + k) (word-told tag.KindMap ws at (n * 256 + k) (r .head ∙ ap Ok q))
 
-map-told : (ss : List Link) (km : List ℕ) (ts : List Link) (ws : List ℕ) (n room at : ℕ) (q : List ℕ) → n + room ≡ length ss → link-mapped ss km ts ws room at ≡ Ok q → Map-read ss km ts ws n at q
-map-told ss km ts ws n room at q h e =
-    let x = then-ok (worded (word tag.LinkMap ws at)) (λ v. cond (ltb 64 (v % 256)) (Err (Words (Limit at))) (cond (eqb (v / 256 + room) (length ss)) (then (path ts ws (v % 256) (getD km (getD ss (v / 256) no-link .from) 0) (at + 1)) (λ x. cond (eqb (x .1) (getD km (getD ss (v / 256) no-link .to) 0)) (Ok (x .0)) (Err (Unjoined (at + v % 256))))) (Err (Unknown at)))) q e in
-    let v = x .0 in
-    let begin = getD km (getD ss (v / 256) no-link .from) 0 in
-    let stop = getD km (getD ss (v / 256) no-link .to) 0 in
-    let y = else-ok (ltb 64 (v % 256)) (cond (eqb (v / 256 + room) (length ss)) (then (path ts ws (v % 256) begin (at + 1)) (λ x. cond (eqb (x .1) stop) (Ok (x .0)) (Err (Unjoined (at + v % 256))))) (Err (Unknown at))) (Words (Limit at)) q (x .2) in
-    let z = if-ok (eqb (v / 256 + room) (length ss)) (then (path ts ws (v % 256) begin (at + 1)) (λ x. cond (eqb (x .1) stop) (Ok (x .0)) (Err (Unjoined (at + v % 256))))) (Unknown at) q (y .1) in
-    let w = then-ok (path ts ws (v % 256) begin (at + 1)) (λ x. cond (eqb (x .1) stop) (Ok (x .0)) (Err (Unjoined (at + v % 256)))) q (z .1) in
-    let d = if-ok (eqb (w .0 .1) stop) (Ok (w .0 .0)) (Unjoined (at + v % 256)) q (w .2) in
-    let same : q ≡ w .0 .0 = ok-same (d .1) in
-    let len : length (w .0 .0) ≡ v % 256 = path-length ts ws (v % 256) begin (at + 1) (w .0) (w .1) in
-    let short : v % 256 ≤ 64 = let t = y .0 in grind (arith, tells) in
-    let num : v / 256 ≡ n = let t = z .0 in grind (arith, tells) in
-    let meet : w .0 .1 ≡ stop = let t = d .0 in grind (arith, tells) in
-    let fields : v ≡ n * 256 + length (w .0 .0) = omega arith in
-    let walk : Walks ts (getD km (getD ss n no-link .from) 0) (w .0 .0) (getD km (getD ss n no-link .to) 0) =
-      subst (λ k. Walks ts (getD km (getD ss k no-link .from) 0) (w .0 .0) (getD km (getD ss k no-link .to) 0)) num (subst (λ t. Walks ts begin (w .0 .0) t) meet (path-walks ts ws (v % 256) begin (at + 1) (w .0) (w .1))) in
-    let stood : Stands ws (at + 1) (map (tagged tag.Step) (w .0 .0)) (at + 1 + length (w .0 .0)) =
-      subst (λ k. Stands ws (at + 1) (map (tagged tag.Step) (w .0 .0)) (at + 1 + k)) (sym len) (path-stands ts ws (v % 256) begin (at + 1) (w .0) (w .1)) in
-    rw same (record {
-      head = worded-ok (word tag.LinkMap ws at) v (x .1) ∙ ap Ok fields;
-      good = record { short = omega arith; walks = walk };
-      steps = stood })
+  pub kind-read : total ≤ 32 → kinds ≤ 32 → (n room at b k : ℕ) → n + room ≡ total → 0 < room → k < kinds → Stands ws at (kind-words n k) b → (kind-mapped total kinds ws room at ≡ Ok k) × (ltb 0 room ≡ true)
+  kind-read few small n room at b k t h g s =
+      let v = n * 256 + k in
+      let w : v < 65536 = omega arith in
+      let o : v % 256 ≡ k = omega arith in
+      let d : v / 256 + room ≡ total = omega arith in
+      let y : v % 256 < kinds = omega arith in (
+        ap (λ r. then (worded r) (kind-of total kinds room at)) (word-read tag.KindMap ws at v (stands-stood tag.KindMap ws at b v [] w s)) ∙ pass room at v d y ∙ ap Ok o,
+        more-some room h,
+      )
+    where
+      pass : (room at v : ℕ) → v / 256 + room ≡ total → v % 256 < kinds → kind-of total kinds room at v ≡ Ok (v % 256)
+      pass room at v d y = grind (arith, tells)
 
-map-laid : (ss : List Link) (km : List ℕ) (ts : List Link) (ws : List ℕ) (n room at : ℕ) (q : List ℕ) → n + room ≡ length ss → link-mapped ss km ts ws room at ≡ Ok q → Stands ws at (map-words n q) (at + path-size q)
-map-laid ss km ts ws n room at q h e =
-    let r = map-told ss km ts ws n room at q h e in
-    let p : at + 1 + length q ≡ at + path-size q = omega arith in
-    rw (← p) (join ws at (at + 1) (at + 1 + length q) (tagged tag.LinkMap (n * 256 + length q) ∷ []) (map (tagged tag.Step) q)
-      (stood-stands tag.LinkMap ws at (n * 256 + length q) (word-told tag.LinkMap ws at (n * 256 + length q) (r .head))) (r .steps))
+-- link maps
+pub record Map-read (ss : List Link) (km : List ℕ) (ts : List Link) (ws : List ℕ) (n at : ℕ) (q : List ℕ) : Type 0 where
+  pub laid : Stands ws at (map-words n q) (at + path-size q)
+  pub good : Good-map ss km ts n q
 
-maps-good : (ss : List Link) (km : List ℕ) (ts : List Link) (ws : List ℕ) (m n at : ℕ) (qs : List (List ℕ)) → n + m ≡ length ss → items path-size (λ left p. ltb 0 left) (link-mapped ss km ts ws) m at ≡ Ok qs → Maps ss km ts n qs
-maps-good ss km ts ws zero n at qs h e = rw (items-zero path-size (λ left p. ltb 0 left) (link-mapped ss km ts ws) at qs e) tt
-maps-good ss km ts ws (suc m) n at [] h e = tt
-maps-good ss km ts ws (suc m) n at (q ∷ qs) h e =
-    let s = items-split path-size (λ left p. ltb 0 left) (link-mapped ss km ts ws) m at q qs e in
-    (map-told ss km ts ws n (suc m) at q h (s .1) .good, maps-good ss km ts ws m (n + 1) (at + path-size q) qs (omega arith) (s .2))
+module _ (ss : List Link) (km : List ℕ) (ts : List Link) (ws : List ℕ) where
+  pub map-told : (n room at : ℕ) (q : List ℕ) → n + room ≡ length ss → link-mapped ss km ts ws room at ≡ Ok q → Map-read ss km ts ws n at q
+  map-told n room at q h e =
+      let x = then-ok (worded (word tag.LinkMap ws at)) (map-of ss km ts ws room at) q e in
+      let v = x .0 in
+      let m = v % 256 in
+      let begin = begins ss km (v / 256) in
+      let stop = stops ss km (v / 256) in
+      let walked = then (path ts ws m begin (at + 1)) (arriving stop (at + m)) in
+      let y = else-ok (ltb 64 m) (cond (eqb (v / 256 + room) (length ss)) walked (Err (Unknown at))) (Words (Limit at)) q (x .2) in
+      let z = if-ok (eqb (v / 256 + room) (length ss)) walked (Unknown at) q (y .1) in
+      let w = then-ok (path ts ws m begin (at + 1)) (arriving stop (at + m)) q (z .1) in
+      let d = if-ok (eqb (w .0 .1) stop) (Ok (w .0 .0)) (Unjoined (at + m)) q (w .2) in
+      let same : q ≡ w .0 .0 = ok-same (d .1) in
+      let len : length (w .0 .0) ≡ m = path-length ts ws m begin (at + 1) (w .0) (w .1) in
+      let short : m ≤ 64 = let t = y .0 in grind (arith, tells) in
+      let num : v / 256 ≡ n = let t = z .0 in grind (arith, tells) in
+      let meet : w .0 .1 ≡ stop = let t = d .0 in grind (arith, tells) in
+      let fields : v ≡ n * 256 + length (w .0 .0) = omega arith in
+      let far : at + 1 + m ≡ at + (1 + length (w .0 .0)) = omega arith in
+      rw same (record {
+        laid = rw (← fields, ← far) (join ws at (at + 1) (at + 1 + m) (tagged tag.LinkMap v ∷ []) (map (tagged tag.Step) (w .0 .0))
+            (stood-stands tag.LinkMap ws at v (word-told tag.LinkMap ws at v (worded-ok (word tag.LinkMap ws at) v (x .1))))
+            (path-stands ts ws m begin (at + 1) (w .0) (w .1)));
+        good = record {
+          short = omega arith;
+          walks = subst (λ k. Walks ts (begins ss km k) (w .0 .0) (stops ss km k)) num (subst (λ t. Walks ts begin (w .0 .0) t) meet (path-walks ts ws m begin (at + 1) (w .0) (w .1)));
+        };
+      })
 
--- a schema
-schema-laid : (side : ℕ) (ws : List ℕ) (at k : ℕ) (ls : List Link) → whole-schema side ws at ≡ Ok (k, ls) → Stands ws at (schema-words side k ls) (at + 1 + length ls) × Good-schema k ls
-schema-laid side ws at k ls e =
-    let a = then-ok (schema side ws at) (λ k. then (links k ws (at + 1)) (λ ls. Ok (k, ls))) (k, ls) e in
-    let b = then-ok (links (a .0) ws (at + 1)) (λ ls. Ok (a .0, ls)) (k, ls) (a .2) in
-    let h : (k, ls) ≡ (a .0, b .0) = ok-same (b .2) in
-    let p : a .0 ≡ k = ap (λ t. t .0) (sym h) in
-    let q : b .0 ≡ ls = ap (λ t. t .1) (sym h) in
-    let s : schema side ws at ≡ Ok k = a .1 ∙ ap Ok p in
-    let l : links k ws (at + 1) ≡ Ok ls = ap (λ j. links j ws (at + 1)) (sym p) ∙ b .1 ∙ ap Ok q in
-    let r = schema-told side ws at k s in
-    let z = items-joined one-word (λ room p. starts tag.Link ws p) (link k ws) ws link-words (link-stands k ws) 64 (at + 1) ls l in
-    let n = sizes-one ls in
-    let c : at + 1 + sizes one-word ls ≡ at + 1 + length ls = ap (λ j. at + 1 + j) n in
-    (rw (← c) (join ws at (at + 1) (at + 1 + sizes one-word ls) (tagged tag.Schema (side * 256 + k) ∷ []) (joined link-words ls)
-      (stood-stands tag.Schema ws at (side * 256 + k) (word-told tag.Schema ws at (side * 256 + k) (r .head))) z),
-    record { some = r .some; few = r .few; few-links = items-length one-word (λ room p. starts tag.Link ws p) (link k ws) 64 (at + 1) ls l;
-      known = items-all one-word (λ room p. starts tag.Link ws p) (link k ws) ws (Good-link k) (link-good k ws) 64 (at + 1) ls l })
-  where
-    sizes-one : (xs : List Link) → sizes one-word xs ≡ length xs
-    sizes-one [] = refl
-    sizes-one (x ∷ xs) = let h = sizes-one xs in omega arith
-
-end-told : (ws : List ℕ) (at p : ℕ) → end ws at ≡ Ok p → Stood tag.End ws at at × (length ws ≡ at + 1)
-end-told ws at p e = (record { inside = grind (arith, tells); same = grind (arith, tells); small = grind (arith, tells) }, grind (arith, tells))
-
-pub read-layouts : Read-layouts
-read-layouts ws p e =
-    let r = problem-told ws p e in
-    let a = schema-laid 0 ws 0 (p .source-kinds) (p .source-links) (r .sourced) in
-    let p1 = 1 + length (p .source-links) in
-    let b = schema-laid 1 ws p1 (p .target-kinds) (p .target-links) (r .targeted) in
-    let p2 = p1 + 1 + length (p .target-links) in
-    let tk = p .target-kinds in
-    let ts = p .target-links in
-    let p3 = p2 + sizes rule-size (p .rules) in
-    let p4 = p3 + sizes one-word (p .kind-map) in
-    let p5 = p4 + sizes path-size (p .link-map) in
-    let c = items-joined rule-size (λ room q. starts tag.Rule ws q) (rule tk ts ws) ws rule-words (rule-laid tk ts ws) 128 p2 (p .rules) (r .ruled) in
-    let sk = p .source-kinds in
-    let d = items-numbered one-word (λ left q. ltb 0 left) (kind-mapped sk tk ws) ws sk kind-words (kind-laid sk tk ws) sk 0 p3 (p .kind-map) (zero-add sk) (r .kinded) in
-    let ss = p .source-links in
-    let km = p .kind-map in
-    let f = items-numbered path-size (λ left q. ltb 0 left) (link-mapped ss km ts ws) ws (length ss) map-words (map-laid ss km ts ws) (length ss) 0 p4 (p .link-map) (zero-add (length ss)) (r .linked) in
-    let A = schema-words 0 sk ss in
-    let B = schema-words 1 tk ts in
-    let C = joined rule-words (p .rules) in
-    let D = numbered kind-words 0 km in
-    let F = numbered map-words 0 (p .link-map) in
-    let s : Stands ws 0 (before-end p) p5 =
-      join ws 0 p1 p5 A (B ++ (C ++ (D ++ F))) (a .0) (join ws p1 p2 p5 B (C ++ (D ++ F)) (b .0) (join ws p2 p3 p5 C (D ++ F) c (join ws p3 p4 p5 D F d f))) in
-    let z = end-told ws p5 p5 (r .closed) in
-    let m : length (before-end p) ≡ p5 = let h = s .far in omega arith in
-    let y : Stands ws p5 (tagged tag.End (length (before-end p)) ∷ []) (p5 + 1) = rw m (stood-stands tag.End ws p5 p5 (z .0)) in
-    (whole ws (layout p) (p5 + 1) (join ws 0 p5 (p5 + 1) (before-end p) (tagged tag.End (length (before-end p)) ∷ []) s y) (z .1),
-    record {
-      source = a .1;
-      target = b .1;
-      few-rules = items-length rule-size (λ room q. starts tag.Rule ws q) (rule tk ts ws) 128 p2 (p .rules) (r .ruled);
-      rules = items-all rule-size (λ room q. starts tag.Rule ws q) (rule tk ts ws) ws (Good-rule tk ts) (rule-good tk ts ws) 128 p2 (p .rules) (r .ruled);
-      kinds-full = maps-length sk tk ws p3 km (r .kinded);
-      kinds = items-all one-word (λ left q. ltb 0 left) (kind-mapped sk tk ws) ws (λ k. k < tk) (λ room q k h. kind-told sk tk ws room q k h .known) sk p3 km (r .kinded);
-      maps-full = items-full path-size (λ left q. ltb 0 left) (link-mapped ss km ts ws) (λ j q. more-one j) (length ss) p4 (p .link-map) (r .linked);
-      maps = maps-good ss km ts ws (length ss) 0 p4 (p .link-map) (zero-add (length ss)) (r .linked) })
+  pub map-read : length ss ≤ 64 → length ts ≤ 64 → (n room at b : ℕ) (q : List ℕ) → n + room ≡ length ss → 0 < room → Good-map ss km ts n q → Stands ws at (map-words n q) b → (link-mapped ss km ts ws room at ≡ Ok q) × (ltb 0 room ≡ true)
+  map-read few small n room at b q t h g s =
+      let m = length q in
+      let v = n * 256 + m in
+      let w : v < 65536 = omega (arith, g .short) in
+      let o : v % 256 ≡ m = omega (arith, g .short) in
+      let d : v / 256 ≡ n = omega (arith, g .short) in
+      let xs = map (tagged tag.Step) q in
+      let z : eqb (stops ss km n) (stops ss km n) ≡ true = grind (arith, tells) in (
+        map-is-path ss km ts ws room at v (word-read tag.LinkMap ws at v (stands-stood tag.LinkMap ws at b v xs w s)) (rw o (g .short)) (rw d t)
+            ∙ ap (λ a. then (path ts ws (v % 256) (begins ss km a) (at + 1)) (arriving (stops ss km a) (at + v % 256))) d
+            ∙ ap (λ a. then (path ts ws a (begins ss km n) (at + 1)) (arriving (stops ss km n) (at + a))) o
+            ∙ ap (λ x. then x (arriving (stops ss km n) (at + m))) (path-made ts ws q (begins ss km n) (stops ss km n) (at + 1) b (omega arith) (g .walks) (back ws at b (tagged tag.LinkMap v ∷ []) xs s))
+            ∙ ap (λ c. cond c (Ok q) (Err (Unjoined (at + m)))) z,
+        more-some room h,
+      )

@@ -2,8 +2,9 @@ pub mod Paths
 pub mod Ruling
 pub mod Mapping
 pub mod Schemas
-pub mod Standings
-pub mod Problems
-pub mod Tokening
-pub mod Pathing
+pub mod Walking
 pub mod Laying
+pub mod Problems
+pub mod Layouts
+pub mod Accepting
+pub mod Tokening

@@ -1,25 +1,22 @@
 -- Kind maps and link maps, as the code reads them.
-use mathlib.Core.Path.{_≡_, refl, sym, ap, _∙_}
-use mathlib.Core.Bool.{Bool, true, false, cond, _&&_}
-use mathlib.Core.List.{List, [], _∷_}
-use Prim.Native.Nat.{ℕ, zero, suc, _+_, _-_, _*_, _/_, _%_, _<_, _≤_}
+use mathlib.Core.Path.{_≡_, sym, ap, _∙_}
+use mathlib.Core.Bool.{true, cond, _&&_}
+use mathlib.Core.List.{List}
+use Prim.Native.Nat.{ℕ, _+_, _-_, _/_, _%_, _<_, _≤_}
 use native.Mathlib.Omega.{arith}
 use lib.Dec.{ltb, eqb}
 use lib.ListN.{length, getD}
 use Rattle.std.proofs.shelf.Ways.{tells}
-use Rattle.std.specs.declared.result.Result.{Result}
 use Rattle.std.specs.declared.result.Result.the-variants.{Ok, Err}
-use Rattle.words.specs.declared.faults.WordFault.the-variants.{Missing, Wrong, Limit}
-use Rattle.words.specs.declared.faults.SchemaFault.{SchemaFault}
-use Rattle.words.specs.declared.faults.SchemaFault.the-variants.{Words, Unknown, Unjoined}
+use Rattle.words.specs.declared.faults.SchemaFault.the-variants.{Unknown, Unjoined}
 use Rattle.words.specs.Words.{word, worded, then}
-use Rattle.words.proofs.Inverse.{err-ok, then-ok, worded-ok, if-ok, else-ok}
-use Rattle.words.proofs.Single.{Stood, word-told}
-use Rattle.words.specs.Items.{items, behind, places, got}
-use Rattle.problems.specs.Problem.{Link, no-link, one-word, path, kind-mapped, kind-maps, link-mapped, path-size}
+use Rattle.words.proofs.Inverse.{then-ok, worded-ok, if-ok}
+use Rattle.words.proofs.Single.{word-told}
+use Rattle.words.specs.Items.{behind, one-word}
+use Rattle.problems.specs.Problem.{Link, path, kind-of, kind-mapped, kind-maps, begins, stops, arriving, map-of, link-mapped, path-size}
 use Rattle.problems.specs.Seen.{reached, Mapped, kinds-got}
-use Rattle.words.proofs.Items.{items-at, items-full, more-one}
-use Rattle.problems.proofs.Paths.{path-length, reached-ok, places-one, both}
+use Rattle.words.proofs.Items.{items-at, items-full, more-one, places-one}
+use Rattle.problems.proofs.Paths.{path-length, reached-ok, both}
 use Rattle.words.specs.declared.tags.Tag.the-variants as tag
 
 pub record Kind-read (n kinds : ℕ) (ws : List ℕ) (left at k : ℕ) : Type 0 where
@@ -31,7 +28,7 @@ pub record Kind-read (n kinds : ℕ) (ws : List ℕ) (left at k : ℕ) : Type 0 
 
 pub kind-told : (n kinds : ℕ) (ws : List ℕ) (left at k : ℕ) → kind-mapped n kinds ws left at ≡ Ok k → Kind-read n kinds ws left at k
 kind-told n kinds ws left at k e =
-    let x = then-ok (worded (word tag.KindMap ws at)) (λ v. cond (eqb (v / 256 + left) n && ltb (v % 256) kinds) (Ok (v % 256)) (Err (Unknown at))) k e in
+    let x = then-ok (worded (word tag.KindMap ws at)) (kind-of n kinds left at) k e in
     let v = x .0 in
     let z = if-ok (eqb (v / 256 + left) n && ltb (v % 256) kinds) (Ok (v % 256)) (Unknown at) k (x .2) in
     let b = both (eqb (v / 256 + left) n) (ltb (v % 256) kinds) (z .0) in
@@ -47,7 +44,7 @@ map-at n kinds ws at k m h =
     let l = maps-length n kinds ws at (kinds-got n kinds ws at) m in
     let q = places-one (kinds-got n kinds ws at) at k (omega arith) in
     kind-told n kinds ws (n - k) (at + k) (getD (kinds-got n kinds ws at) k 0)
-      (ap (kind-mapped n kinds ws (n - k)) (sym q) ∙ items-at one-word (λ left p. ltb 0 left) (kind-mapped n kinds ws) n at k (kinds-got n kinds ws at) 0 m (omega arith))
+    (ap (kind-mapped n kinds ws (n - k)) (sym q) ∙ items-at one-word (λ left p. ltb 0 left) (kind-mapped n kinds ws) n at k (kinds-got n kinds ws at) 0 m (omega arith))
 
 pub map-inside : (n kinds : ℕ) (ws : List ℕ) (at k : ℕ) → Mapped n kinds ws at → k < n → at + k < length ws
 map-inside n kinds ws at k m h = let r = map-at n kinds ws at k m h in word-told tag.KindMap ws (at + k) (r .fields) (r .head) .inside
@@ -59,20 +56,21 @@ map-is n kinds ws at k v m h e =
     let q : v ≡ r .fields = omega (arith, s .same, s .small) in
     ap (λ x. x % 256) q ∙ r .is
 
+-- a link map, where its word and its path are known
+pub map-is-path : (ss : List Link) (km : List ℕ) (ts : List Link) (ws : List ℕ) (left at v : ℕ) → word tag.LinkMap ws at ≡ Ok v → v % 256 ≤ 64 → v / 256 + left ≡ length ss
+    → link-mapped ss km ts ws left at ≡ then (path ts ws (v % 256) (begins ss km (v / 256)) (at + 1)) (arriving (stops ss km (v / 256)) (at + v % 256))
+map-is-path ss km ts ws left at v e h n = ap (λ r. then (worded r) (map-of ss km ts ws left at)) e ∙ grind (arith, tells)
+
 pub map-code : (ss : List Link) (km : List ℕ) (ts : List Link) (ws : List ℕ) (left at v begin end last links : ℕ) → word tag.LinkMap ws at ≡ Ok v → v % 256 ≤ 64 → v / 256 + left ≡ links → length ss ≡ links
-  → begin ≡ getD km (getD ss (v / 256) no-link .from) 0 → end ≡ getD km (getD ss (v / 256) no-link .to) 0
-  → reached (path ts ws (v % 256) begin (at + 1)) ≡ Ok last → last ≡ end
-  → Ok (at + 1 + v % 256) ≡ behind path-size at (link-mapped ss km ts ws left at)
+    → begin ≡ begins ss km (v / 256) → end ≡ stops ss km (v / 256)
+    → reached (path ts ws (v % 256) begin (at + 1)) ≡ Ok last → last ≡ end
+    → Ok (at + 1 + v % 256) ≡ behind path-size at (link-mapped ss km ts ws left at)
 map-code ss km ts ws left at v begin end last links e h n ln a b r d =
     let x = reached-ok ts ws (path ts ws (v % 256) begin (at + 1)) last r in
     let l = path-length ts ws (v % 256) begin (at + 1) (x .0) (x .1) in
-    let z : eqb (x .0 .1) (getD km (getD ss (v / 256) no-link .to) 0) ≡ true = let s : x .0 .1 ≡ getD km (getD ss (v / 256) no-link .to) 0 = x .2 ∙ d ∙ b in grind (arith, tells) in
-    let t : ltb 64 (v % 256) ≡ false = grind (arith, tells) in
-    let u : eqb (v / 256 + left) (length ss) ≡ true = grind (arith, tells) in
+    let z : eqb (x .0 .1) (stops ss km (v / 256)) ≡ true = let s : x .0 .1 ≡ stops ss km (v / 256) = x .2 ∙ d ∙ b in grind (arith, tells) in
     sym (
-      ap (λ r. behind path-size at (then (worded r) (λ v. cond (ltb 64 (v % 256)) (Err (Words (Limit at))) (cond (eqb (v / 256 + left) (length ss)) (then (path ts ws (v % 256) (getD km (getD ss (v / 256) no-link .from) 0) (at + 1)) (λ x. cond (eqb (x .1) (getD km (getD ss (v / 256) no-link .to) 0)) (Ok (x .0)) (Err (Unjoined (at + v % 256))))) (Err (Unknown at)))))) e
-      ∙ ap (λ c. behind path-size at (cond c (Err (Words (Limit at))) (cond (eqb (v / 256 + left) (length ss)) (then (path ts ws (v % 256) (getD km (getD ss (v / 256) no-link .from) 0) (at + 1)) (λ x. cond (eqb (x .1) (getD km (getD ss (v / 256) no-link .to) 0)) (Ok (x .0)) (Err (Unjoined (at + v % 256))))) (Err (Unknown at))))) t
-      ∙ ap (λ c. behind path-size at (cond c (then (path ts ws (v % 256) (getD km (getD ss (v / 256) no-link .from) 0) (at + 1)) (λ x. cond (eqb (x .1) (getD km (getD ss (v / 256) no-link .to) 0)) (Ok (x .0)) (Err (Unjoined (at + v % 256))))) (Err (Unknown at)))) u
-      ∙ ap (λ r. behind path-size at (then r (λ x. cond (eqb (x .1) (getD km (getD ss (v / 256) no-link .to) 0)) (Ok (x .0)) (Err (Unjoined (at + v % 256)))))) (ap (λ s. path ts ws (v % 256) s (at + 1)) (sym a) ∙ x .1)
-      ∙ ap (λ c. behind path-size at (cond c (Ok (x .0 .0)) (Err (Unjoined (at + v % 256))))) z
-      ∙ ap Ok (omega arith))
+    ap (behind path-size at) (map-is-path ss km ts ws left at v e h (n ∙ sym ln))
+    ∙ ap (λ r. behind path-size at (then r (arriving (stops ss km (v / 256)) (at + v % 256)))) (ap (λ s. path ts ws (v % 256) s (at + 1)) (sym a) ∙ x .1)
+    ∙ ap (λ c. behind path-size at (cond c (Ok (x .0 .0)) (Err (Unjoined (at + v % 256))))) z
+    ∙ ap Ok (omega arith))

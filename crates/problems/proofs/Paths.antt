@@ -9,17 +9,16 @@ use lib.ListN.{length, getD}
 use Rattle.std.proofs.shelf.Ways.{tells}
 use Rattle.std.specs.declared.result.Result.{Result}
 use Rattle.std.specs.declared.result.Result.the-variants.{Ok, Err}
-use Rattle.words.specs.declared.faults.WordFault.{WordFault}
-use Rattle.words.specs.declared.faults.WordFault.the-variants.{Missing, Wrong, Limit}
+use Rattle.words.specs.declared.faults.WordFault.the-variants.{Limit}
 use Rattle.words.specs.declared.faults.SchemaFault.{SchemaFault}
 use Rattle.words.specs.declared.faults.SchemaFault.the-variants.{Words, Unknown, Unjoined}
 use Rattle.words.specs.Words.{word, worded, then, starts}
 use Rattle.words.proofs.Inverse.{err-ok, then-ok, worded-ok, if-ok, else-ok}
-use Rattle.words.proofs.Single.{Stood, word-told}
-use Rattle.words.specs.Items.{items, sized, got, places}
-use Rattle.problems.specs.Problem.{Link, no-link, one-word, link, links, step, path}
+use Rattle.words.proofs.Single.{word-told}
+use Rattle.words.specs.Items.{sized, got, places, one-word}
+use Rattle.problems.specs.Problem.{Link, no-link, link-of, link, links, step-of, step, path}
 use Rattle.problems.specs.Seen.{Linked, links-got, reached}
-use Rattle.words.proofs.Items.{items-at}
+use Rattle.words.proofs.Items.{items-at, places-one}
 use Rattle.words.specs.declared.tags.Tag.the-variants as tag
 
 pub got-known : {A E : Type 0} (r : Result (List A) E) (n : ℕ) → sized r ≡ Ok n → (r ≡ Ok (got r)) × (length (got r) ≡ n)
@@ -40,7 +39,7 @@ pub record Link-read (kinds : ℕ) (ws : List ℕ) (room at : ℕ) (l : Link) : 
 
 pub link-told : (kinds : ℕ) (ws : List ℕ) (room at : ℕ) (l : Link) → link kinds ws room at ≡ Ok l → Link-read kinds ws room at l
 link-told kinds ws room at l e =
-    let x = then-ok (worded (word tag.Link ws at)) (λ v. cond (eqb room 0) (Err (Words (Limit at))) (cond (ltb (v / 256) kinds && ltb (v % 256) kinds) (Ok (record { from = v / 256; to = v % 256 })) (Err (Unknown at)))) l e in
+    let x = then-ok (worded (word tag.Link ws at)) (link-of kinds room at) l e in
     let v = x .0 in
     let y = else-ok (eqb room 0) (cond (ltb (v / 256) kinds && ltb (v % 256) kinds) (Ok (record { from = v / 256; to = v % 256 })) (Err (Unknown at))) (Words (Limit at)) l (x .2) in
     let z = if-ok (ltb (v / 256) kinds && ltb (v % 256) kinds) (Ok (record { from = v / 256; to = v % 256 })) (Unknown at) l (y .1) in
@@ -54,21 +53,17 @@ link-told kinds ws room at l e =
       head = worded-ok (word tag.Link ws at) v (x .1) ∙ ap Ok s;
       narrow = omega arith;
       from-known = rw p (grind (arith, tells));
-      to-known = rw t (grind (arith, tells)) }
-
-pub places-one : {X : Type 0} (xs : List X) (at g : ℕ) → g < length xs → getD (places one-word at xs) g 0 ≡ at + g
-places-one [] at g h = absurd (omega arith)
-places-one (x ∷ xs) at zero h = omega arith
-places-one (x ∷ xs) at (suc g) h = let k = places-one xs (at + 1) g (omega arith) in k ∙ omega arith
+      to-known = rw t (grind (arith, tells));
+    }
 
 -- each link stands at its place
 pub link-at : (kinds : ℕ) (ws : List ℕ) (at n g : ℕ) → Linked kinds ws at n → g < n
-  → Link-read kinds ws (64 - g) (at + g) (getD (links-got kinds ws at) g no-link)
+    → Link-read kinds ws (64 - g) (at + g) (getD (links-got kinds ws at) g no-link)
 link-at kinds ws at n g k h =
     let x = got-known (links kinds ws at) n k in
     let q = places-one (links-got kinds ws at) at g (omega arith) in
     link-told kinds ws (64 - g) (at + g) (getD (links-got kinds ws at) g no-link)
-      (ap (link kinds ws (64 - g)) (sym q) ∙ items-at one-word (λ room p. starts tag.Link ws p) (link kinds ws) 64 at g (links-got kinds ws at) no-link (x .0) (omega arith))
+    (ap (link kinds ws (64 - g)) (sym q) ∙ items-at one-word (λ room p. starts tag.Link ws p) (link kinds ws) 64 at g (links-got kinds ws at) no-link (x .0) (omega arith))
 
 pub linked-length : (kinds : ℕ) (ws : List ℕ) (at n : ℕ) → Linked kinds ws at n → length (links-got kinds ws at) ≡ n
 linked-length kinds ws at n k = got-known (links kinds ws at) n k .1
@@ -77,7 +72,7 @@ pub link-inside : (kinds : ℕ) (ws : List ℕ) (at n g : ℕ) → Linked kinds 
 link-inside kinds ws at n g k h = word-told tag.Link ws (at + g) _ (link-at kinds ws at n g k h .head) .inside
 
 pub link-from : (kinds : ℕ) (ws : List ℕ) (at n g v : ℕ) → Linked kinds ws at n → g < n → v ≡ getD ws (at + g) 0 % 268435456
-  → (v / 256 ≡ getD (links-got kinds ws at) g no-link .from) × (v % 256 ≡ getD (links-got kinds ws at) g no-link .to)
+    → (v / 256 ≡ getD (links-got kinds ws at) g no-link .from) × (v % 256 ≡ getD (links-got kinds ws at) g no-link .to)
 link-from kinds ws at n g v k h e =
     let r = link-at kinds ws at n g k h in
     let s = word-told tag.Link ws (at + g) (getD (links-got kinds ws at) g no-link .from * 256 + getD (links-got kinds ws at) g no-link .to) (r .head) in
@@ -93,24 +88,21 @@ left-one n k h = omega arith
 
 module _ (ts : List Link) (ws : List ℕ) where
   pub path-step : (n k kind to p g : ℕ) → k < n → step ts ws kind p ≡ Ok g → to ≡ getD ts g no-link .to
-    → reached (path ts ws (n - (k + 1)) to (p + 1)) ≡ reached (path ts ws (n - k) kind p)
+      → reached (path ts ws (n - (k + 1)) to (p + 1)) ≡ reached (path ts ws (n - k) kind p)
   path-step n k kind to p g h e q =
       ap (λ t. reached (path ts ws (n - (k + 1)) t (p + 1))) q
       ∙ sym (ap (λ m. reached (path ts ws m kind p)) (left-one n k h)
-        ∙ ap (λ r. reached (then r (λ g. then (path ts ws (n - (k + 1)) (getD ts g no-link .to) (p + 1)) (λ x. Ok (g ∷ x .0, x .1))))) e
-        ∙ reached-more g (path ts ws (n - (k + 1)) (getD ts g no-link .to) (p + 1)))
+      ∙ ap (λ r. reached (then r (λ g. then (path ts ws (n - (k + 1)) (getD ts g no-link .to) (p + 1)) (λ x. Ok (g ∷ x .0, x .1))))) e
+      ∙ reached-more g (path ts ws (n - (k + 1)) (getD ts g no-link .to) (p + 1)))
 
   pub path-stop : (n k kind p : ℕ) (y : SchemaFault) → k < n → step ts ws kind p ≡ Err y → reached (path ts ws (n - k) kind p) ≡ Err y
   path-stop n k kind p y h e =
       ap (λ m. reached (path ts ws m kind p)) (left-one n k h)
       ∙ ap (λ r. reached (then r (λ g. then (path ts ws (n - (k + 1)) (getD ts g no-link .to) (p + 1)) (λ x. Ok (g ∷ x .0, x .1))))) e
 
-  pub path-done : (n k kind p : ℕ) → n ≤ k → reached (path ts ws (n - k) kind p) ≡ Ok kind
-  path-done n k kind p h = let z : n - k ≡ 0 = omega arith in ap (λ m. reached (path ts ws m kind p)) z
-
   pub step-told : (kind p g : ℕ) → step ts ws kind p ≡ Ok g → (word tag.Step ws p ≡ Ok g) × (g < length ts) × (getD ts g no-link .from ≡ kind)
   step-told kind p g e =
-      let x = then-ok (worded (word tag.Step ws p)) (λ g. cond (ltb g (length ts)) (cond (eqb (getD ts g no-link .from) kind) (Ok g) (Err (Unjoined p))) (Err (Unknown p))) g e in
+      let x = then-ok (worded (word tag.Step ws p)) (step-of ts kind p) g e in
       let y = if-ok (ltb (x .0) (length ts)) (cond (eqb (getD ts (x .0) no-link .from) kind) (Ok (x .0)) (Err (Unjoined p))) (Unknown p) g (x .2) in
       let z = if-ok (eqb (getD ts (x .0) no-link .from) kind) (Ok (x .0)) (Unjoined p) g (y .1) in
       let s : x .0 ≡ g = let q = z .1 in cc in
@@ -120,7 +112,7 @@ module _ (ts : List Link) (ws : List ℕ) where
 
   -- an accepted path, its first step and its rest
   pub path-split : (n kind p : ℕ) (x : List ℕ × ℕ) → path ts ws (suc n) kind p ≡ Ok x
-    → (g : ℕ) × (y : List ℕ × ℕ) × (step ts ws kind p ≡ Ok g) × (path ts ws n (getD ts g no-link .to) (p + 1) ≡ Ok y) × (x ≡ (g ∷ y .0, y .1))
+      → (g : ℕ) × (y : List ℕ × ℕ) × (step ts ws kind p ≡ Ok g) × (path ts ws n (getD ts g no-link .to) (p + 1) ≡ Ok y) × (x ≡ (g ∷ y .0, y .1))
   path-split n kind p x e =
       let a = then-ok (step ts ws kind p) (λ g. then (path ts ws n (getD ts g no-link .to) (p + 1)) (λ x. Ok (g ∷ x .0, x .1))) x e in
       let b = then-ok (path ts ws n (getD ts (a .0) no-link .to) (p + 1)) (λ x. Ok (a .0 ∷ x .0, x .1)) x (a .2) in

@@ -1,7 +1,7 @@
 -- A schema that was read.
-use mathlib.Core.Path.{_≡_, refl, sym, ap, subst, _∙_}
-use mathlib.Core.Bool.{Bool, true, false, cond, _&&_}
-use mathlib.Core.List.{List, [], _∷_}
+use mathlib.Core.Path.{_≡_, refl, sym, ap, _∙_}
+use mathlib.Core.Bool.{cond, _&&_}
+use mathlib.Core.List.{List}
 use Prim.Native.Nat.{ℕ, _+_, _*_, _/_, _%_, _<_, _≤_}
 use native.Mathlib.Omega.{arith}
 use lib.Dec.{ltb, leb, eqb}
@@ -9,14 +9,14 @@ use lib.ListN.{length}
 use Rattle.std.proofs.shelf.Ways.{tells}
 use Rattle.std.specs.declared.result.Result.{Result}
 use Rattle.std.specs.declared.result.Result.the-variants.{Ok, Err}
-use Rattle.words.specs.declared.faults.WordFault.the-variants.{Missing, Wrong, Limit}
+use Rattle.words.specs.declared.faults.WordFault.the-variants.{Wrong, Limit}
 use Rattle.words.specs.declared.faults.SchemaFault.{SchemaFault}
-use Rattle.words.specs.declared.faults.SchemaFault.the-variants.{Words, Unknown, Unjoined}
+use Rattle.words.specs.declared.faults.SchemaFault.the-variants.{Words}
 use Rattle.words.specs.Words.{word, worded, then, starts}
-use Rattle.words.proofs.Inverse.{err-ok, then-ok, worded-ok, if-ok, else-ok}
+use Rattle.words.proofs.Inverse.{err-ok, then-ok, worded-ok, if-ok}
 use Rattle.problems.specs.declared.Schema.{Schema}
-use Rattle.words.specs.Items.{sized}
-use Rattle.problems.specs.Problem.{Link, schema, link, links, one-word, whole-schema}
+use Rattle.words.specs.Items.{sized, one-word}
+use Rattle.problems.specs.Problem.{Link, schema-of, schema, link, links, whole-schema}
 use Rattle.problems.specs.Seen.{Linked}
 use Rattle.problems.specs.Shown.{seen}
 use Rattle.words.proofs.Items.{items-length}
@@ -30,7 +30,7 @@ pub record Kinds-read (side : ℕ) (ws : List ℕ) (at k : ℕ) : Type 0 where
 
 pub schema-told : (side : ℕ) (ws : List ℕ) (at k : ℕ) → schema side ws at ≡ Ok k → Kinds-read side ws at k
 schema-told side ws at k e =
-    let x = then-ok (worded (word tag.Schema ws at)) (λ v. cond (eqb (v / 256) side) (cond (ltb 0 (v % 256) && leb (v % 256) 32) (Ok (v % 256)) (Err (Words (Limit at)))) (Err (Words (Wrong at)))) k e in
+    let x = then-ok (worded (word tag.Schema ws at)) (schema-of side at) k e in
     let v = x .0 in
     let y = if-ok (eqb (v / 256) side) (cond (ltb 0 (v % 256) && leb (v % 256) 32) (Ok (v % 256)) (Err (Words (Limit at)))) (Words (Wrong at)) k (x .2) in
     let z = if-ok (ltb 0 (v % 256) && leb (v % 256) 32) (Ok (v % 256)) (Words (Limit at)) k (y .1) in
@@ -64,4 +64,5 @@ schema-seen side ws at s e =
       linked = ap (λ k. sized (links k ws (at + 1))) p ∙ ap sized (b .1) ∙ ap (λ l. Ok (length l)) (sym q);
       few-kinds = rw p (schema-told side ws at (a .0) (a .1) .few);
       few-links = rw q (items-length one-word (λ room p. starts tag.Link ws p) (link (a .0) ws) 64 (at + 1) (b .0) (b .1));
-      placed = refl })
+      placed = refl;
+    })

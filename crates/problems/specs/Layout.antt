@@ -4,10 +4,10 @@ use mathlib.Core.List.{List, [], _∷_, _++_, map}
 use Prim.Native.Nat.{ℕ, _+_, _*_, _<_, _≤_}
 use lib.ListN.{length, getD}
 use Rattle.std.specs.shelf.Lists.{All, joined}
-use Rattle.std.specs.declared.result.Result.the-variants.{Ok, Err}
+use Rattle.std.specs.declared.result.Result.the-variants.{Ok}
 use Rattle.words.specs.Tags.{tagged}
-use Rattle.problems.specs.Problem.{Link, Rule, Problem, no-link, read}
-use Rattle.problems.specs.Places.{Walks}
+use Rattle.words.specs.Numbered.{numbered, Each}
+use Rattle.problems.specs.Problem.{Link, Rule, Problem, no-link, begins, stops, read}
 use Rattle.words.specs.declared.tags.Tag.the-variants as tag
 
 abbrev pub link-words : Link → List ℕ
@@ -22,20 +22,15 @@ kind-words n k = tagged tag.KindMap (n * 256 + k) ∷ []
 abbrev pub map-words : ℕ → List ℕ → List ℕ
 map-words n q = tagged tag.LinkMap (n * 256 + length q) ∷ map (tagged tag.Step) q
 
--- items by their numbers
-abbrev pub numbered : {X : Type 0} → (ℕ → X → List ℕ) → ℕ → List X → List ℕ
-numbered lay n [] = []
-numbered lay n (x ∷ xs) = lay n x ++ numbered lay (n + 1) xs
-
 abbrev pub schema-words : ℕ → ℕ → List Link → List ℕ
 schema-words side k ls = tagged tag.Schema (side * 256 + k) ∷ joined link-words ls
 
 abbrev pub before-end : Problem → List ℕ
 before-end p =
-  schema-words 0 (p .source-kinds) (p .source-links)
-  ++ (schema-words 1 (p .target-kinds) (p .target-links)
-  ++ (joined rule-words (p .rules)
-  ++ (numbered kind-words 0 (p .kind-map) ++ numbered map-words 0 (p .link-map))))
+    schema-words 0 (p .source-kinds) (p .source-links)
+    ++ (schema-words 1 (p .target-kinds) (p .target-links)
+    ++ (joined rule-words (p .rules)
+    ++ (numbered kind-words 0 (p .kind-map) ++ numbered map-words 0 (p .link-map))))
 
 abbrev pub layout : Problem → List ℕ
 layout p = before-end p ++ tagged tag.End (length (before-end p)) ∷ []
@@ -50,6 +45,12 @@ pub record Good-schema (k : ℕ) (ls : List Link) : Type 0 where
   pub few-links : length ls ≤ 64
   pub known : All (Good-link k) ls
 
+-- a path walks from a kind to a kind: each link leaves the kind reached
+abbrev pub Walks : List Link → ℕ → List ℕ → ℕ → Type 0
+Walks ts kind [] end = kind ≡ end
+Walks ts kind (g ∷ gs) end = (g < length ts) × (getD ts g no-link .from ≡ kind) × Walks ts (getD ts g no-link .to) gs end
+
+-- both paths walk from the first kind to one kind
 pub record Good-rule (kinds : ℕ) (ts : List Link) (r : Rule) : Type 0 where
   pub known : r .first < kinds
   pub left-short : length (r .left) ≤ 64
@@ -61,11 +62,7 @@ pub record Good-rule (kinds : ℕ) (ts : List Link) (r : Rule) : Type 0 where
 -- the path of the source link n runs between the mapped kinds of its ends
 pub record Good-map (ss : List Link) (km : List ℕ) (ts : List Link) (n : ℕ) (q : List ℕ) : Type 0 where
   pub short : length q ≤ 64
-  pub walks : Walks ts (getD km (getD ss n no-link .from) 0) q (getD km (getD ss n no-link .to) 0)
-
-abbrev pub Maps : List Link → List ℕ → List Link → ℕ → List (List ℕ) → Type 0
-Maps ss km ts n [] = Unit {0}
-Maps ss km ts n (q ∷ qs) = Good-map ss km ts n q × Maps ss km ts (n + 1) qs
+  pub walks : Walks ts (begins ss km n) q (stops ss km n)
 
 pub record Well-formed (p : Problem) : Type 0 where
   pub source : Good-schema (p .source-kinds) (p .source-links)
@@ -75,8 +72,12 @@ pub record Well-formed (p : Problem) : Type 0 where
   pub kinds-full : length (p .kind-map) ≡ p .source-kinds
   pub kinds : All (λ k. k < p .target-kinds) (p .kind-map)
   pub maps-full : length (p .link-map) ≡ length (p .source-links)
-  pub maps : Maps (p .source-links) (p .kind-map) (p .target-links) 0 (p .link-map)
+  pub maps : Each (Good-map (p .source-links) (p .kind-map) (p .target-links)) 0 (p .link-map)
 
--- an accepted problem is the layout of a well-formed one
-abbrev pub Read-layouts : Type 0
-Read-layouts = (ws : List ℕ) (p : Problem) → read ws ≡ Ok p → (ws ≡ layout p) × Well-formed p
+-- accepted exactly if the words are the layout of a well-formed problem
+abbrev pub Reads-layouts : Type 0
+Reads-layouts = (ws : List ℕ) (p : Problem) → (read ws ≡ Ok p → (ws ≡ layout p) × Well-formed p) × ((ws ≡ layout p) × Well-formed p → read ws ≡ Ok p)
+
+-- so no two files are read as one problem
+abbrev pub Reads-once : Type 0
+Reads-once = (ws vs : List ℕ) (p : Problem) → read ws ≡ Ok p → read vs ≡ Ok p → ws ≡ vs

@@ -1,6 +1,6 @@
 pub mod Problem
 pub mod Seen
 pub mod Shown
-pub mod Places
-pub mod Tokens
 pub mod Layout
+pub mod Accepts
+pub mod Tokens

@@ -10,8 +10,8 @@ use Rattle.problems.specs.declared.RulePlaces.{RulePlaces}
 use Rattle.problems.specs.declared.MapPlaces.{MapPlaces}
 use Rattle.problems.specs.declared.Schema.{Schema}
 use Rattle.problems.specs.declared.Found.{Found}
-use Rattle.words.specs.Items.{places, sizes}
-use Rattle.problems.specs.Problem.{Link, Problem, one-word, rule-size, path-size}
+use Rattle.words.specs.Items.{places, sizes, one-word}
+use Rattle.problems.specs.Problem.{Link, Problem, rule-size, path-size}
 
 abbrev pub shown : Result RulePlaces SchemaFault → Result (List ℕ × ℕ) SchemaFault
 shown (Ok l) = Ok (take (l .count) (l .places), l .next)
@@ -40,10 +40,12 @@ told (Err e) = Err e
 
 abbrev pub outline-from : Schema → Schema → ℕ → Result Problem SchemaFault → Result Seen SchemaFault
 outline-from s t at (Ok p) = Ok (record {
-  source = s; target = t;
+  source = s;
+  target = t;
   rules = places rule-size at (p .rules);
   maps = at + sizes rule-size (p .rules);
-  link-maps = places path-size (at + sizes rule-size (p .rules) + sizes one-word (p .kind-map)) (p .link-map) })
+  link-maps = places path-size (at + sizes rule-size (p .rules) + sizes one-word (p .kind-map)) (p .link-map);
+})
 outline-from s t at (Err e) = Err e
 
 abbrev pub source-of : Problem → Schema

@@ -1,16 +1,15 @@
+// The reader of problem files: two schemas, rules, kind maps and link maps.
 ghost use mathlib.Core.Path.{_≡_};
-ghost use mathlib.Core.Bool.{Bool, true, false, cond};
-ghost use mathlib.Core.List.{List, [], _∷_, _++_};
-ghost use Prim.Native.Nat.{ℕ, _+_, _-_, _*_, _/_, _%_, _^_, _<_, _≤_};
+ghost use Prim.Native.Nat.{_+_, _-_, _/_, _%_, _<_, _≤_};
 ghost use lib.ListN.{length, getD, take};
 ghost use Rattle.std.specs.Vec.{made};
-ghost use Rattle.words.specs.Items.{sized, behind, outlined, ended};
-ghost use Rattle.problems.specs.Problem.{no-link, one-word, schema as schemaOf, link as linkOf, links as linksOf, step as stepOf, path as pathOf, rule as ruleOf, rule-size, rules as rulesOf, kind-mapped, kind-maps, link-mapped, link-maps, path-size, whole-schema, behind-schemas, read as readOf};
+ghost use Rattle.words.specs.Items.{one-word, sized, behind, outlined, ended};
+ghost use Rattle.problems.specs.Problem.{no-link, schema as schemaOf, link as linkOf, links as linksOf, step as stepOf, path as pathOf, rule as ruleOf, rule-size, rules as rulesOf, kind-mapped, kind-maps, link-mapped, link-maps, path-size, whole-schema, behind-schemas, read as readOf};
 ghost use Rattle.problems.specs.Seen.{Linked, links-got, reached, Mapped, kinds-got};
 ghost use Rattle.std.specs.declared.result.Result.the-variants.{Ok};
-ghost use Rattle.problems.specs.Places.{Rules-stand, Reads-paths};
-ghost use Rattle.problems.specs.Layout.{Read-layouts};
-ghost use Rattle.problems.specs.Tokens.{token-shown, rule-here, rule-shown, token-of};
+ghost use Rattle.problems.specs.Layout.{Reads-layouts, Reads-once};
+ghost use Rattle.problems.specs.Accepts.{Laid};
+ghost use Rattle.problems.specs.Tokens.{shown-token, token-in, rule-token, map-token};
 ghost use Rattle.problems.specs.Shown.{shown, shown-maps, seen, told as toldOf, outline-from, outline-of};
 use words::faults::SchemaFault;
 use words::faults::SchemaFromWord;
@@ -20,23 +19,34 @@ use words::reading::fields_at;
 use words::reading::starts;
 use words::reading::word;
 use words::tags::Tag;
+use words::tokens::Token;
+use words::tokens::token_at;
+
+// How many kinds and links a schema may have, rules a problem, and steps a path.
+const KINDS: u32 = 32;
+
+const LINKS: usize = 64;
+
+const RULES: usize = 128;
+
+const STEPS: u32 = 64;
 
 // The kinds of the schema of a side.
-pub fn schema_kinds(words: &[u32], side: u32, at: usize) -> Result<u32, SchemaFault>
+fn schema_kinds(words: &[u32], side: u32, at: usize) -> Result<u32, SchemaFault>
     ensures { λ r. ⌜ r ≡ schemaOf side (now (words .entry)) at ⌝ }
 {
     let v = word(words, at, Tag::Schema)?;
     if v / 256 != side {
         return Err(SchemaFault::Words(WordFault::Wrong(at)));
     }
-    if v % 256 == 0 || v % 256 > 32 {
+    if v % 256 == 0 || v % 256 > KINDS {
         return Err(SchemaFault::Words(WordFault::Limit(at)));
     }
     Ok(v % 256)
 }
 
 // A link, where there is room for one; tells the place behind it.
-pub fn link(words: &[u32], kinds: u32, room: usize, at: usize) -> Result<usize, SchemaFault>
+fn link(words: &[u32], kinds: u32, room: usize, at: usize) -> Result<usize, SchemaFault>
     ensures { λ r. ⌜ r ≡ behind one-word at (linkOf kinds (now (words .entry)) room at) ⌝ }
 {
     let v = word(words, at, Tag::Link)?;
@@ -50,13 +60,13 @@ pub fn link(words: &[u32], kinds: u32, room: usize, at: usize) -> Result<usize, 
 }
 
 // The links of a schema; tells how many.
-pub fn links(words: &[u32], kinds: u32, start: usize) -> Result<usize, SchemaFault>
+fn links(words: &[u32], kinds: u32, start: usize) -> Result<usize, SchemaFault>
     ensures { λ r. ⌜ r ≡ sized (linksOf kinds (now (words .entry)) start) ⌝ }
 {
     let mut at = start;
     let mut count = 0;
     while starts(words, at, Tag::Link) {
-        at = link(words, kinds, 64 - count, at)?;
+        at = link(words, kinds, LINKS - count, at)?;
         count += 1;
     }
     Ok(count)
@@ -65,9 +75,9 @@ pub fn links(words: &[u32], kinds: u32, start: usize) -> Result<usize, SchemaFau
 // A schema that was read: its kinds, how many links it has, and the place of the first.
 #[derive(Clone, Copy)]
 pub struct Schema {
-    kinds: u32,
-    links: usize,
-    place: usize,
+    pub kinds: u32,
+    pub links: usize,
+    pub place: usize,
 }
 
 // A step leaves the kind reached; tells its link.
@@ -119,7 +129,7 @@ fn rule(words: &[u32], schema: Schema, room: usize, at: usize) -> Result<usize, 
     let v = word(words, at, Tag::Rule)?;
     let left = v / 256 % 256;
     let right = v % 256;
-    if room == 0 || left > 64 || right > 64 {
+    if room == 0 || left > STEPS || right > STEPS {
         return Err(SchemaFault::Words(WordFault::Limit(at)));
     }
     let first = v / 65536;
@@ -136,9 +146,9 @@ fn rule(words: &[u32], schema: Schema, room: usize, at: usize) -> Result<usize, 
 
 // Where the rules stand, and the place behind the last.
 #[derive(Clone, Copy)]
-pub struct RulePlaces {
+struct RulePlaces {
     count: usize,
-    places: [usize; 128],
+    places: [usize; RULES],
     next: usize,
 }
 
@@ -149,14 +159,18 @@ fn rules(words: &[u32], schema: Schema, start: usize) -> Result<RulePlaces, Sche
 {
     let mut at = start;
     let mut count = 0;
-    let mut places = [0; 128];
+    let mut places = [0; RULES];
     while starts(words, at, Tag::Rule) {
-        let next = rule(words, schema, 128 - count, at)?;
+        let next = rule(words, schema, RULES - count, at)?;
         places[count] = at;
         count += 1;
         at = next;
     }
-    Ok(RulePlaces { count, places, next: at })
+    Ok(RulePlaces {
+        count,
+        places,
+        next: at,
+    })
 }
 
 // The kind map of a source kind, with that many left; tells the place behind it.
@@ -192,14 +206,21 @@ fn mapped(words: &[u32], n: u32, kinds: u32, start: usize, kind: u32) -> u32
 }
 
 // The link map of a source link, with that many left; tells the place behind it.
-fn link_map(words: &[u32], source: Schema, target: Schema, maps: usize, left: usize, at: usize) -> Result<usize, SchemaFault>
+fn link_map(
+    words: &[u32],
+    source: Schema,
+    target: Schema,
+    maps: usize,
+    left: usize,
+    at: usize,
+) -> Result<usize, SchemaFault>
     requires { ⌜ Linked (source .kinds) (now words) (source .place) (source .links) ⌝ ∗ ⌜ Linked (target .kinds) (now words) (target .place) (target .links) ⌝
         ∗ ⌜ Mapped (source .kinds) (target .kinds) (now words) maps ⌝ ∗ ⌜ 0 < left ⌝ ∗ ⌜ left ≤ 64 ⌝ }
     ensures { λ r. ⌜ r ≡ behind path-size at (link-mapped (links-got (source .kinds) (now (words .entry)) (source .place)) (kinds-got (source .kinds) (target .kinds) (now (words .entry)) maps) (links-got (target .kinds) (now (words .entry)) (target .place)) (now (words .entry)) left at) ⌝ }
 {
     let v = word(words, at, Tag::LinkMap)?;
     let n = v % 256;
-    if n > 64 {
+    if n > STEPS {
         return Err(SchemaFault::Words(WordFault::Limit(at)));
     }
     let link = v / 256;
@@ -218,18 +239,24 @@ fn link_map(words: &[u32], source: Schema, target: Schema, maps: usize, left: us
 
 // Where the link maps stand, and the place behind the last.
 #[derive(Clone, Copy)]
-pub struct MapPlaces {
-    places: [usize; 64],
+struct MapPlaces {
+    places: [usize; LINKS],
     next: usize,
 }
 
-fn link_maps(words: &[u32], source: Schema, target: Schema, maps: usize, start: usize) -> Result<MapPlaces, SchemaFault>
+fn link_maps(
+    words: &[u32],
+    source: Schema,
+    target: Schema,
+    maps: usize,
+    start: usize,
+) -> Result<MapPlaces, SchemaFault>
     requires { ⌜ Linked (source .kinds) (now words) (source .place) (source .links) ⌝ ∗ ⌜ Linked (target .kinds) (now words) (target .place) (target .links) ⌝
         ∗ ⌜ Mapped (source .kinds) (target .kinds) (now words) maps ⌝ ∗ ⌜ source .links ≤ 64 ⌝ }
     ensures { λ r. ⌜ shown-maps (source .links) r ≡ outlined path-size start (link-maps (links-got (source .kinds) (now (words .entry)) (source .place)) (kinds-got (source .kinds) (target .kinds) (now (words .entry)) maps) (links-got (target .kinds) (now (words .entry)) (target .place)) (now (words .entry)) start) ⌝ }
 {
     let mut at = start;
-    let mut places = [0; 64];
+    let mut places = [0; LINKS];
     for i in 0..source.links {
         let next = link_map(words, source, target, maps, source.links - i, at)?;
         places[i] = at;
@@ -244,18 +271,22 @@ fn schema_at(words: &[u32], side: u32, at: usize) -> Result<Schema, SchemaFault>
 {
     let kinds = schema_kinds(words, side, at)?;
     let links = links(words, kinds, at + 1)?;
-    Ok(Schema { kinds, links, place: at + 1 })
+    Ok(Schema {
+        kinds,
+        links,
+        place: at + 1,
+    })
 }
 
 // A problem file that was read through: its schemas, and where its rules and maps stand.
 #[derive(Clone, Copy)]
 pub struct Found {
-    source: Schema,
-    target: Schema,
-    rules: usize,
-    rule_places: [usize; 128],
-    maps: usize,
-    map_places: [usize; 64],
+    pub source: Schema,
+    pub target: Schema,
+    pub rules: usize,
+    pub rule_places: [usize; RULES],
+    pub maps: usize,
+    pub map_places: [usize; LINKS],
 }
 
 // What stands behind the schemas.
@@ -273,11 +304,18 @@ fn rest(words: &[u32], source: Schema, target: Schema, start: usize) -> Result<F
     let count = found.count;
     let rule_places = found.places;
     let map_places = links.places;
-    Ok(Found { source, target, rules: count, rule_places, maps, map_places })
+    Ok(Found {
+        source,
+        target,
+        rules: count,
+        rule_places,
+        maps,
+        map_places,
+    })
 }
 
-// Reads a problem file through, and tells the first fault.
-pub fn read(words: &[u32]) -> Result<Found, SchemaFault>
+// The parts of a problem file, one after another.
+fn read(words: &[u32]) -> Result<Found, SchemaFault>
     ensures { λ r. ⌜ toldOf r ≡ outline-of (readOf (now (words .entry))) ⌝ }
 {
     let source = schema_at(words, 0, 0)?;
@@ -285,57 +323,41 @@ pub fn read(words: &[u32]) -> Result<Found, SchemaFault>
     rest(words, source, target, target.place + target.links)
 }
 
-// At the place of each rule of an accepted problem stand its word and its two paths.
-pub fn rules_stand() -> u8
-    ensures { λ _. ⌜ Rules-stand ⌝ }
+// Reads a problem file through, and tells the first fault.
+// It is accepted exactly if its words are the layout of a well-formed problem.
+pub fn read_problem(words: &[u32]) -> Result<Found, SchemaFault>
+    ensures told { λ r. ⌜ toldOf r ≡ outline-of (readOf (now (words .entry))) ⌝ }
+    ensures laid { λ r. ⌜ Laid (now (words .entry)) r ⌝ }
+    ensures layouts { λ _. ⌜ Reads-layouts ⌝ ∗ ⌜ Reads-once ⌝ }
 {
-    0
+    read(words)
 }
 
-// A rule: its two paths are parts of the words read.
-#[derive(Clone, Copy)]
-pub struct RuleToken<'a> {
-    first: u32,
-    left: &'a [u32],
-    right: &'a [u32],
-    place: usize,
-}
-
-// The rule whose word stands at a place and has those fields.
-fn rule_token<'a>(words: &'a [u32], place: usize, v: u32) -> RuleToken<'a>
-    requires { ⌜ place + 1 + v / 256 % 256 + v % 256 ≤ length (now words) ⌝ }
-    ensures { λ r. ⌜ token-shown r ≡ rule-here (now (words .entry)) place v ⌝ }
+// The token at the i-th of the first n places, unless it is refused.
+fn token_in<'a>(words: &'a [u32], places: &[usize], n: usize, i: usize) -> Option<Token<'a>>
+    ensures { λ r. ⌜ shown-token r ≡ token-in (now (words .entry)) (take n (now (places .entry))) i ⌝ }
 {
-    let start = place + 1;
-    let middle = start + (v / 256 % 256) as usize;
-    let left = &words[start..middle];
-    let right = &words[middle..middle + (v % 256) as usize];
-    RuleToken { first: v / 65536, left, right, place }
-}
-
-// The rule of that number.
-pub fn rule_at<'a>(words: &'a [u32], found: Found, i: usize) -> Option<RuleToken<'a>>
-    requires { ⌜ toldOf (Ok found) ≡ outline-of (readOf (now words)) ⌝ }
-    ensures { λ r. ⌜ rule-shown r ≡ token-of (readOf (now (words .entry))) i ⌝ }
-{
-    if i >= found.rules || i >= 128 {
+    if i >= n || i >= places.len() {
         return None;
     }
-    let place = found.rule_places[i];
-    let v = fields_at(words, place);
-    Some(rule_token(words, place, v))
+    match token_at(words, places[i]) {
+        Ok(token) => Some(token),
+        Err(_) => None,
+    }
 }
 
-// A path is read exactly if its steps stand there and it walks.
-pub fn reads_paths() -> u8
-    ensures { λ _. ⌜ Reads-paths ⌝ }
+// The token of the rule of that number: its first kind, its two paths, its place.
+pub fn rule_at<'a>(words: &'a [u32], found: &Found, i: usize) -> Option<Token<'a>>
+    ensures stands { λ r. ⌜ shown-token r ≡ token-in (now (words .entry)) (take (now (found .entry) .rules) (now (found .entry) .«rule_places»)) i ⌝ }
+    ensures known { λ r. ⌜ (toldOf (Ok (now (found .entry))) ≡ outline-of (readOf (now (words .entry))) → shown-token r ≡ rule-token (readOf (now (words .entry))) i) ⌝ }
 {
-    0
+    token_in(words, &found.rule_places, found.rules, i)
 }
 
-// An accepted problem file is the layout of a well-formed problem.
-pub fn read_layouts() -> u8
-    ensures { λ _. ⌜ Read-layouts ⌝ }
+// The token of the link map of that source link: its path, its place.
+pub fn link_map_at<'a>(words: &'a [u32], found: &Found, i: usize) -> Option<Token<'a>>
+    ensures stands { λ r. ⌜ shown-token r ≡ token-in (now (words .entry)) (take (now (found .entry) .source .links) (now (found .entry) .«map_places»)) i ⌝ }
+    ensures known { λ r. ⌜ (toldOf (Ok (now (found .entry))) ≡ outline-of (readOf (now (words .entry))) → shown-token r ≡ map-token (readOf (now (words .entry))) i) ⌝ }
 {
-    0
+    token_in(words, &found.map_places, found.source.links, i)
 }

@@ -14,16 +14,16 @@ use Rattle.std.specs.declared.result.Result.{Result}
 use Rattle.std.specs.declared.result.Result.the-variants.{Ok, Err}
 use Rattle.words.specs.declared.faults.SchemaFault.{SchemaFault}
 use Rattle.words.specs.Words.{starts}
-use Rattle.words.specs.Register.{Row, File, link, span, read}
+use Rattle.register_files.specs.Register.{Row, File, link, span, read}
 use Rattle.words.specs.Items.{places}
-use Rattle.words.specs.Outline.{outline-of}
+use Rattle.register_files.specs.Outline.{outline-of}
 use Rattle.registers.specs.Meaning.{Lawful, no-row, row-at, no-file, or-none, file, answers}
 use Rattle.registers.specs.Holding.{kept}
 use Rattle.words.proofs.Inverse.{err-ok}
-use Rattle.words.proofs.Single.{Stood, word-told, counted-told}
+use Rattle.words.proofs.Single.{Stood, word-told}
 use Rattle.words.proofs.Items.{run-at, run-length, items-at}
-use Rattle.words.proofs.Parts.{Link-read, link-told, count-stood, counts-told}
-use Rattle.words.proofs.Files.{File-read, read-told}
+use Rattle.register_files.proofs.Parts.{Link-read, link-told, count-stood, counts-told, counted-told}
+use Rattle.register_files.proofs.Files.{File-read, read-told}
 use Rattle.words.specs.declared.tags.Tag.the-variants as tag
 
 pub file-none : file [] ≡ no-file

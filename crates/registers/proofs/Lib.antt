@@ -1,2 +1,6 @@
 pub mod Answering
 pub mod Wheels
+pub mod WrittenLists
+pub mod WrittenSplices
+pub mod WrittenFiles
+pub mod WrittenBack

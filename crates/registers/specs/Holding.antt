@@ -3,7 +3,7 @@ use Rattle.std.specs.declared.result.Result.{Result}
 use Rattle.std.specs.declared.result.Result.the-variants.{Ok, Err}
 use Rattle.words.specs.declared.faults.SchemaFault.{SchemaFault}
 use Rattle.registers.specs.declared.held.Held.{Held}
-use Rattle.words.specs.Register.{File}
+use Rattle.register_files.specs.Register.{File}
 use Rattle.registers.specs.Meaning.{Meaning, file, answers}
 
 abbrev pub held-file : Held → File

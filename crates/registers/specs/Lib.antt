@@ -4,4 +4,5 @@ pub mod Wheels
 pub mod Turning
 pub mod Blanks
 pub mod Writing
+pub mod Splices
 pub mod WriteFaults

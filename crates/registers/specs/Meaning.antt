@@ -10,7 +10,7 @@ use Rattle.std.specs.declared.option.Option.the-variants.{Some, None}
 use Rattle.std.specs.declared.result.Result.{Result}
 use Rattle.std.specs.declared.result.Result.the-variants.{Ok, Err}
 use Rattle.words.specs.declared.faults.SchemaFault.{SchemaFault}
-use Rattle.words.specs.Register.{Row, File, read}
+use Rattle.register_files.specs.Register.{Row, File, read}
 
 pub record Meaning : Type 0 where
   pub kinds : ℕ

@@ -9,19 +9,20 @@ use Rattle.std.specs.declared.option.Option.{Option}
 use Rattle.std.specs.declared.option.Option.the-variants.{Some, None}
 use Rattle.std.specs.declared.result.Result.{Result}
 use Rattle.std.specs.declared.result.Result.the-variants.{Ok, Err}
-use Rattle.words.specs.Register.{Row, File, read}
-use Rattle.words.specs.Layout.{layout}
+use Rattle.std.specs.Options.{valueOr}
+use Rattle.register_files.specs.Register.{Row, File, read}
+use Rattle.register_files.specs.Layout.{layout}
 use Rattle.registers.specs.declared.writing.WriteFault.{WriteFault}
 use Rattle.registers.specs.declared.writing.WriteFault.the-variants.{Large, Leads, Memory}
 use Rattle.registers.specs.Meaning.{Meaning, no-row, answers}
 
 -- f 0, f 1 and so on, n of them
-abbrev pub upto : {X : Type 0} → (ℕ → X) → ℕ → List X
+unfoldable pub upto : {X : Type 0} → (ℕ → X) → ℕ → List X
 upto f zero = []
 upto f (suc n) = upto f n ++ f n ∷ []
 
 -- a number below n passes the test
-abbrev pub some-below : (ℕ → Bool) → ℕ → Bool
+unfoldable pub some-below : (ℕ → Bool) → ℕ → Bool
 some-below p zero = false
 some-below p (suc n) = some-below p n || p n
 
@@ -30,40 +31,50 @@ or-here (Some x) o = Some x
 or-here None o = o
 
 -- the lowest number below n that passes the test
-abbrev pub lowest : (ℕ → Bool) → ℕ → Option ℕ
+unfoldable pub lowest : (ℕ → Bool) → ℕ → Option ℕ
 lowest p zero = None
 lowest p (suc n) = or-here (lowest p n) (cond (p n) (Some n) None)
 
+-- a kind of more than 65,535 records
+abbrev pub crowded : Meaning → Bool
+crowded m = some-below (λ k. ltb 65535 (m .count k)) (m .kinds)
+
 -- more than 32 kinds, 64 links or 65,535 records of a kind
 abbrev pub large : Meaning → Bool
-large m = ltb 32 (m .kinds) || (ltb 64 (m .links) || some-below (λ k. ltb 65535 (m .count k)) (m .kinds))
+large m = ltb 32 (m .kinds) || (ltb 64 (m .links) || crowded m)
 
 -- not one of the first n records
 abbrev pub astray : ℕ → Option ℕ → Bool
 astray n None = true
 astray n (Some r) = not (ltb r n)
 
--- ends that are not among the kinds, or a counted record that leads to nothing or to an uncounted one
+-- a counted record that leads to nothing or to an uncounted one
+abbrev pub strays : Meaning → ℕ → ℕ → ℕ → Bool
+strays m l from to = some-below (λ r. astray (m .count to) (m .follow l r)) (m .count from)
+
+-- a link with an end that is not among the kinds, or that strays
 abbrev pub broken-by : Meaning → ℕ → Option (ℕ × ℕ) → Bool
 broken-by m l None = true
-broken-by m l (Some e) =
-  not (ltb (e .0) (m .kinds) && ltb (e .1) (m .kinds)) || some-below (λ r. astray (m .count (e .1)) (m .follow l r)) (m .count (e .0))
+broken-by m l (Some e) = not (ltb (e .0) (m .kinds) && ltb (e .1) (m .kinds)) || strays m l (e .0) (e .1)
 
 abbrev pub broken : Meaning → ℕ → Bool
 broken m l = broken-by m l (m .ends l)
 
-abbrev pub or-zero : Option ℕ → ℕ
-or-zero (Some r) = r
-or-zero None = 0
+-- where a link leads from a record; 0 where it leads to nothing
+abbrev pub lead : Meaning → ℕ → ℕ → ℕ
+lead m l r = valueOr (m .follow l r) 0
 
 -- a link as a row of a file
 abbrev pub row-by : Meaning → ℕ → Option (ℕ × ℕ) → Row
-row-by m l (Some e) = record { from = e .0; to = e .1; leads = upto (λ r. or-zero (m .follow l r)) (m .count (e .0)) }
+row-by m l (Some e) = record { from = e .0; to = e .1; leads = upto (lead m l) (m .count (e .0)) }
 row-by m l None = no-row
+
+abbrev pub row-of : Meaning → ℕ → Row
+row-of m l = row-by m l (m .ends l)
 
 -- the register file of a register, without landings
 abbrev pub file-of : Meaning → File
-file-of m = record { counts = upto (m .count) (m .kinds); links = upto (λ l. row-by m l (m .ends l)) (m .links); landings = [] }
+file-of m = record { counts = upto (m .count) (m .kinds); links = upto (row-of m) (m .links); landings = [] }
 
 abbrev pub unless-broken : Option ℕ → List ℕ → Result (List ℕ) WriteFault
 unless-broken (Some l) ws = Err (Leads l)

@@ -3,7 +3,7 @@ ghost use Prim.Native.Nat.{ℕ, _+_, _≤_};
 ghost use lib.ListN.{length, take};
 ghost use denote.Ref.{now};
 ghost use Rattle.words.specs.Items.{places as placesOf};
-ghost use Rattle.words.specs.Register.{span};
+ghost use Rattle.register_files.specs.Register.{span};
 ghost use Rattle.registers.specs.Meaning.{file};
 
 pub mod calls;

@@ -5,20 +5,26 @@ use mathlib.Core.List.{List, [], _∷_, _++_}
 use Prim.Native.Nat.{ℕ, zero, suc, _+_, _-_, _<_, _≤_}
 use native.Mathlib.Omega.{arith}
 use native.Mathlib.Nat.{add-zero}
+use lib.Dec.{ltb}
 use lib.ListN.{length, length-append}
 use Rattle.std.proofs.shelf.Ways.{tells}
 use Rattle.std.specs.shelf.Lists.{All, joined}
 use Rattle.std.specs.declared.result.Result.{Result}
-use Rattle.std.specs.declared.result.Result.the-variants.{Ok, Err}
+use Rattle.std.specs.declared.result.Result.the-variants.{Ok}
 use Rattle.words.specs.declared.faults.SchemaFault.{SchemaFault}
-use Rattle.words.specs.Words.{then}
+use Rattle.words.specs.Words.{then, end}
 use Rattle.words.specs.Items.{items, sizes}
 use Rattle.words.specs.Numbered.{numbered, Each}
-use Rattle.words.specs.Register.{end}
 use Rattle.words.proofs.Items.{items-zero, items-split, items-none}
 use Rattle.words.proofs.Single.{Stood, word-read}
 use Rattle.words.proofs.Standing.{Stands, none, join, front, back}
 use Rattle.words.specs.declared.tags.Tag.the-variants as tag
+
+pub ok-same : {A E : Type 0} {x y : A} → _≡_ {A = Result A E} (Ok x) (Ok y) → y ≡ x
+ok-same {A} {E} {x} {y} e = cc
+
+pub more-some : (m : ℕ) → 0 < m → ltb 0 m ≡ true
+more-some m h = grind (arith, tells)
 
 -- where no item's words tell its number
 module _ {X : Type 0} where
@@ -42,7 +48,7 @@ module _ {X : Type 0} where
 -- the number of an item and the room that it has make up the total
 module _ {X : Type 0} (size : X → ℕ) (more : ℕ → ℕ → Bool) (f : ℕ → ℕ → Result X SchemaFault) (ws : List ℕ) (total : ℕ) (lay : ℕ → X → List ℕ) (P : ℕ → X → Type 0) where
   pub items-stand : ((n room at : ℕ) (x : X) → n + room ≡ total → f room at ≡ Ok x → Stands ws at (lay n x) (at + size x)) → (m n at : ℕ) (xs : List X) → n + m ≡ total → items size more f m at ≡ Ok xs
-    → Stands ws at (numbered lay n xs) (at + sizes size xs)
+      → Stands ws at (numbered lay n xs) (at + sizes size xs)
   items-stand each zero n at xs h e = rw (items-zero size more f at xs e, add-zero) (none ws at)
   items-stand each (suc m) n at [] h e = rw add-zero (none ws at)
   items-stand each (suc m) n at (x ∷ xs) h e =
@@ -58,8 +64,8 @@ module _ {X : Type 0} (size : X → ℕ) (more : ℕ → ℕ → Bool) (f : ℕ 
 
   -- items are read where they stand, up to a place at which there are no more
   pub items-read : ((n : ℕ) (x : X) → length (lay n x) ≡ size x)
-    → ((n room at b : ℕ) (x : X) → n + room ≡ total → 0 < room → P n x → Stands ws at (lay n x) b → (f room at ≡ Ok x) × (more room at ≡ true))
-    → (m n at b : ℕ) (xs : List X) → n + m ≡ total → length xs ≤ m → Each P n xs → Stands ws at (numbered lay n xs) b → more (m - length xs) b ≡ false → items size more f m at ≡ Ok xs
+      → ((n room at b : ℕ) (x : X) → n + room ≡ total → 0 < room → P n x → Stands ws at (lay n x) b → (f room at ≡ Ok x) × (more room at ≡ true))
+      → (m n at b : ℕ) (xs : List X) → n + m ≡ total → length xs ≤ m → Each P n xs → Stands ws at (numbered lay n xs) b → more (m - length xs) b ≡ false → items size more f m at ≡ Ok xs
   unfolding items
   items-read len each m n at b [] t h a s z =
       let q : b ≡ at = omega (arith, s .far) in let r : m - 0 ≡ m = omega arith in

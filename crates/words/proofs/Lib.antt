@@ -3,6 +3,4 @@ pub mod Single
 pub mod Items
 pub mod Standing
 pub mod Laid
-pub mod Parts
-pub mod Files
-pub mod Layouts
+pub mod Tokening

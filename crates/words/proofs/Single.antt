@@ -11,7 +11,6 @@ use Rattle.words.specs.declared.tags.Tag.{Tag}
 use Rattle.words.specs.Tags.{tagged, size}
 use lib.Dec.{lit≤}
 use Rattle.words.specs.Words.{word, worded, tag, fields}
-use Rattle.words.specs.Register.{count, counted}
 use Rattle.words.specs.declared.tags.Tag.the-variants as tag
 
 size-fits : (t : Tag) → size t ≤ 268435456
@@ -40,9 +39,3 @@ word-told t ws at v e = record { inside = grind (arith, tells); same = grind (ar
 
 pub word-read : (t : Tag) (ws : List ℕ) (at v : ℕ) → Stood t ws at v → word t ws at ≡ Ok v
 word-read t ws at v s = let h = size-fits t in grind (arith, tells)
-
-pub count-told : (ws : List ℕ) (at v : ℕ) → count ws at ≡ Ok v → Stood tag.Count ws at v
-count-told ws at v e = record { inside = grind (arith, tells); same = grind (arith, tells); small = grind (arith, tells) }
-
-pub counted-told : (m : ℕ) (ws : List ℕ) (at v : ℕ) → counted m ws at ≡ Ok v → Stood tag.Record ws at v × (v < m)
-counted-told m ws at v e = (record { inside = grind (arith, tells); same = grind (arith, tells); small = grind (arith, tells) }, grind (arith, tells))

@@ -3,7 +3,4 @@ pub mod Faults
 pub mod Words
 pub mod Items
 pub mod Numbered
-pub mod Register
-pub mod Layout
-pub mod Outline
-pub mod Shown
+pub mod Tokens

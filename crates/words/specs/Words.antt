@@ -1,12 +1,13 @@
 -- Words on file: a tag and fields; and what every reader is made of.
 use mathlib.Core.Bool.{Bool, cond, _&&_}
 use mathlib.Core.List.{List}
-use Prim.Native.Nat.{ℕ, _/_, _%_}
+use Prim.Native.Nat.{ℕ, _+_, _/_, _%_}
 use lib.Dec.{ltb, eqb}
 use lib.ListN.{length, getD}
 use Rattle.std.specs.declared.result.Result.{Result}
 use Rattle.std.specs.declared.result.Result.the-variants.{Ok, Err}
 use Rattle.words.specs.declared.tags.Tag.{Tag}
+use Rattle.words.specs.declared.tags.Tag.the-variants as tags
 use Rattle.words.specs.Tags.{number, size}
 use Rattle.words.specs.declared.faults.WordFault.{WordFault}
 use Rattle.words.specs.declared.faults.WordFault.the-variants.{Missing, Wrong}
@@ -45,3 +46,7 @@ worded (Err e) = Err (Words e)
 abbrev pub giving : {A B E : Type 0} → B → Result A E → Result B E
 giving b (Ok x) = Ok b
 giving b (Err e) = Err e
+
+-- the end, behind that many words
+abbrev pub end : List ℕ → ℕ → Result ℕ WordFault
+end ws at = then (word tags.End ws at) (λ v. cond (eqb v at) (cond (eqb (length ws) (at + 1)) (Ok at) (Err (Wrong (at + 1)))) (Err (Wrong at)))

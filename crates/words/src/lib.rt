@@ -1,5 +1,5 @@
 // Words on file: tags, faults, and the readers of words.
 pub mod faults;
 pub mod reading;
-pub mod register_file;
 pub mod tags;
+pub mod tokens;

@@ -2,8 +2,7 @@
 ghost use mathlib.Core.Path.{_≡_};
 ghost use Prim.Native.Nat.{_%_};
 ghost use lib.ListN.{getD};
-ghost use Rattle.words.specs.Words.{word as wordOf, fields, starts as startsOf};
-ghost use Rattle.words.specs.Register.{end as endOf};
+ghost use Rattle.words.specs.Words.{word as wordOf, fields, starts as startsOf, end as endOf};
 use crate::faults::WordFault;
 use crate::tags::Tag;
 

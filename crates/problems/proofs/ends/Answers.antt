@@ -1,4 +1,3 @@
-use mathlib.Core.Path.{_≡_}
 use borrow.Author.Needs.{needs}
 use Rattle.problems.proofs.Paths.{link-inside, link-from, link-known}
 use Rattle.problems.proofs.ends.Needs as need

@@ -1,5 +1,4 @@
-use mathlib.Core.Path.{_≡_, sym, _∙_}
-use native.Mathlib.Omega.{arith}
+use mathlib.Core.Path.{sym, _∙_}
 use Rattle.std.proofs.shelf.Results.{err-from-errBy}
 use Rattle.words.proofs.Items.{ended-turn, ended-stop, ended-done, more-left, none-left}
 use Rattle.problems.proofs.kind_maps.Needs as need

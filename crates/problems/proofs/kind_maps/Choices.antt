@@ -1,8 +1,8 @@
 use mathlib.Core.Path.{_≡_}
-use Prim.Native.Nat.{_+_, _-_, _≤_}
+use Prim.Native.Nat.{_-_}
 use lib.Dec.{ltb}
-use Rattle.words.specs.Items.{items, ended}
-use Rattle.problems.specs.Problem.{one-word, kind-mapped, kind-maps}
+use Rattle.words.specs.Items.{items, ended, one-word}
+use Rattle.problems.specs.Problem.{kind-mapped, kind-maps}
 use Rattle.problems.proofs.kind_maps.Given as given
 
 abbrev pub Inv-loop-k : given.InvT-loop-k

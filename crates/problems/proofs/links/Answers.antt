@@ -1,9 +1,9 @@
-use mathlib.Core.Path.{_≡_, sym, _∙_}
+use mathlib.Core.Path.{sym, _∙_}
 use Prim.Native.Nat.{_<_, _-_}
 use native.Mathlib.Omega.{arith}
 use lib.Dec.{lit≤}
+use Rattle.words.specs.Items.{one-word}
 use Rattle.std.proofs.shelf.Results.{err-from-errBy}
-use Rattle.problems.specs.Problem.{one-word}
 use Rattle.words.proofs.Items.{behind-ok, count-turn, count-stop, count-done, plus-none}
 use Rattle.problems.proofs.Paths.{link-told}
 use Rattle.problems.proofs.links.Needs as need

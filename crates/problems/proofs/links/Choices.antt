@@ -1,9 +1,9 @@
 use mathlib.Core.Path.{_≡_}
-use Prim.Native.Nat.{_+_, _-_, _≤_}
+use Prim.Native.Nat.{_-_, _≤_}
 use lib.ListN.{length}
 use Rattle.words.specs.Words.{starts}
-use Rattle.words.specs.Items.{items, sized}
-use Rattle.problems.specs.Problem.{one-word, link, links}
+use Rattle.words.specs.Items.{items, sized, one-word}
+use Rattle.problems.specs.Problem.{link, links}
 use Rattle.words.proofs.Items.{plus}
 use Rattle.problems.proofs.links.Given as given
 use Rattle.words.specs.declared.tags.Tag.the-variants as tag

@@ -1,5 +1,4 @@
-use mathlib.Core.Path.{_≡_, sym}
-use native.Mathlib.Omega.{arith}
+use mathlib.Core.Path.{sym}
 use borrow.Author.Needs.{needs}
 use Rattle.problems.proofs.Schemas.{schema-seen}
 use Rattle.problems.proofs.read.Needs as need

@@ -1,4 +1,4 @@
-use mathlib.Core.Path.{_≡_, sym, _∙_}
+use mathlib.Core.Path.{sym, _∙_}
 use Prim.Native.Nat.{_+_, _<_, _≤_}
 use native.Mathlib.Omega.{arith}
 use lib.ListN.{length}
@@ -19,5 +19,5 @@ pub returns : need.returns
 returns c =
     let ws = c .args .words .now in
     rule-code (c .args .schema .kinds) (links-got (c .args .schema .kinds) ws (c .args .schema .place)) ws (c .args .room) (c .args .at) (c .in-Continue-v .v) (c .in-Continue-one .one) (c .in-Continue-other .other)
-      (sym (c .word .ensures) ∙ c .in-Continue-v .was tt) (omega arith) (omega arith) (omega arith) (omega arith)
-      (sym (c .in-Continue-one .ensures tt)) (sym (c .in-Continue-other .ensures tt)) (c .if-one-other .left)
+    (sym (c .word .ensures) ∙ c .in-Continue-v .was tt) (omega arith) (omega arith) (omega arith) (omega arith)
+    (sym (c .in-Continue-one .ensures tt)) (sym (c .in-Continue-other .ensures tt)) (c .if-one-other .left)

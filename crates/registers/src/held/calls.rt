@@ -1,13 +1,13 @@
 ghost use mathlib.Core.Path.{_≡_};
 ghost use Prim.Native.Nat.{ℕ, _+_, _≤_};
 ghost use denote.Ref.{now};
-ghost use Rattle.words.specs.Register.{read as readOf};
+ghost use Rattle.register_files.specs.Register.{read as readOf};
 ghost use Rattle.words.specs.Words.{giving};
 ghost use Rattle.registers.specs.Meaning.{answers, no-file};
 ghost use Rattle.registers.specs.Holding.{held-file, kept};
 use words::faults::SchemaFault;
 use words::reading::fields_at;
-use words::register_file::read_register;
+use register_files::read_register;
 use crate::register::Register;
 use crate::held::Held;
 

@@ -2,7 +2,7 @@ use mathlib.Core.Path.{_≡_, refl, sym, ap}
 use lib.Dec.{lit≤}
 use lib.ListN.{length}
 use Rattle.words.specs.Items.{places}
-use Rattle.words.specs.Register.{span}
+use Rattle.register_files.specs.Register.{span}
 use Rattle.registers.proofs.Answering.{file-none}
 use Rattle.registers.proofs.held.Held.new.Needs as need
 

@@ -1,0 +1,6 @@
+use mathlib.Core.Path.{_∙_}
+use Rattle.problems.proofs.Tokening.{map-kept}
+use Rattle.problems.proofs.link_map_at.Needs as need
+
+pub returns : need.returns
+returns c = record { stands = c .token-in .ensures; known = λ t. c .token-in .ensures ∙ map-kept (c .args .words .now) (c .args .found .now) t (c .args .i) }

@@ -1,0 +1,4 @@
+pub mod Register
+pub mod Layout
+pub mod Outline
+pub mod Shown

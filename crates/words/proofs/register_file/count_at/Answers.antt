@@ -1,7 +1,0 @@
-use mathlib.Core.Path.{_∙_}
-use native.Mathlib.Omega.{arith}
-use Rattle.words.proofs.Parts.{known-stood}
-use Rattle.words.proofs.register_file.count_at.Needs as need
-
-pub returns : need.returns
-returns c = let s = known-stood (c .args .words .now) (c .args .kinds) (c .args .kind) (c .pre .0) (c .pre .1) in omega (arith, c .fields-at .ensures, s .same, s .small)
