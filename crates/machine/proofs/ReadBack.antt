@@ -12,9 +12,9 @@ use Rattle.std.proofs.shelf.Lists.{getD-past}
 use Rattle.std.proofs.shelf.Tests.{cases-lt, ltb-true}
 use Rattle.std.specs.declared.option.Option.{Option}
 use Rattle.std.specs.declared.option.Option.the-variants.{Some, None}
-use Rattle.words.specs.Register.{Row}
-use Rattle.words.specs.Layout.{Good-link, Good-landing, Well-formed}
-use Rattle.words.proofs.Layouts.{layout-read}
+use Rattle.register_files.specs.Register.{Row}
+use Rattle.register_files.specs.Layout.{Good-link, Good-landing, Well-formed}
+use Rattle.register_files.proofs.Layouts.{layout-read}
 use Rattle.registers.specs.Meaning.{no-row, answers}
 use Rattle.registers.specs.Writing.{upto}
 use Rattle.machine.specs.Loaded.{Loaded}

@@ -10,8 +10,8 @@ use Rattle.std.proofs.shelf.Tests.{cases-eq}
 use Rattle.std.specs.declared.option.Option.{Option}
 use Rattle.std.specs.declared.option.Option.the-variants.{Some, None}
 use Rattle.words.specs.declared.faults.Refusal.the-variants as refusal
-use Rattle.words.specs.Register.{Row}
-use Rattle.words.specs.Layout.{layout}
+use Rattle.register_files.specs.Register.{Row}
+use Rattle.register_files.specs.Layout.{layout}
 use Rattle.registers.specs.Writing.{upto}
 use Rattle.machine.specs.Loaded.{Loaded}
 use Rattle.machine.specs.State.{Slot, cell, landing, State, start, on, waits}

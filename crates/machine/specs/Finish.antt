@@ -10,8 +10,8 @@ use Rattle.std.specs.declared.option.Option.the-variants.{Some, None}
 use Rattle.std.specs.declared.result.Result.{Result}
 use Rattle.std.specs.declared.result.Result.the-variants.{Ok, Err}
 use Rattle.words.specs.declared.faults.Refusal.{Refusal}
-use Rattle.words.specs.Register.{File}
-use Rattle.words.specs.Layout.{layout}
+use Rattle.register_files.specs.Register.{File}
+use Rattle.register_files.specs.Layout.{layout}
 use Rattle.registers.specs.Writing.{upto}
 use Rattle.words.specs.declared.faults.Refusal.the-variants as refusal
 use Rattle.machine.specs.Loaded.{Loaded}

@@ -7,7 +7,7 @@ use lib.Dec.{ltb}
 use lib.ListN.{getD}
 use Rattle.std.specs.declared.option.Option.the-variants.{Some, None}
 use Rattle.std.specs.declared.result.Result.the-variants.{Ok}
-use Rattle.words.specs.Register.{read}
+use Rattle.register_files.specs.Register.{read}
 use Rattle.registers.specs.Meaning.{Meaning, no-row, answers}
 use Rattle.machine.specs.Loaded.{Loaded}
 use Rattle.machine.specs.Loading.{load}

@@ -2,7 +2,7 @@
 use mathlib.Core.Path.{_≡_}
 use mathlib.Core.List.{List}
 use Prim.Native.Nat.{ℕ, _<_}
-use Rattle.words.specs.Layout.{layout}
+use Rattle.register_files.specs.Layout.{layout}
 use Rattle.machine.specs.Loaded.{Loaded}
 use Rattle.machine.specs.State.{State, start}
 use Rattle.machine.specs.Readings.{Accepted, Receiver, Placing}
