@@ -11,6 +11,7 @@ pub mod Runs
 pub mod Tests
 pub mod Loads
 pub mod Promised
+pub mod Worked
 pub mod Typed
 pub mod Finished
 pub mod Count

@@ -13,14 +13,12 @@ use Rattle.std.specs.declared.result.Result.{Result}
 use Rattle.std.specs.declared.result.Result.the-variants.{Ok, Err}
 use Rattle.words.specs.declared.faults.Refusal.{Refusal}
 use Rattle.words.specs.declared.faults.Refusal.the-variants as refusal
-use Rattle.registers.specs.Meaning.{Meaning}
 use Rattle.machine.specs.Loaded.{Loaded}
-use Rattle.machine.specs.Loading.{load}
 use Rattle.machine.specs.State.{State, start}
-use Rattle.machine.specs.Shift.{Call, calls}
+use Rattle.machine.specs.Shift.{calls}
 use Rattle.machine.specs.Complete.{Complete}
 use Rattle.machine.specs.Finish.{finish-words, finish-fault, put-words, One-finish, Finish-accepts}
-use Rattle.machine.specs.Promise.{Finishes, Promised, Promise}
+use Rattle.machine.specs.Promise.{Finishes, Promise}
 use Rattle.machine.proofs.Runs.{invariance-of-calls}
 use Rattle.machine.proofs.Finished.{complete-keeps}
 use Rattle.machine.proofs.Loads.{accepted, taken-from, same-load}

@@ -18,3 +18,4 @@ pub mod Sequence
 pub mod Finish
 pub mod Universal
 pub mod Promise
+pub mod Worked

@@ -11,6 +11,7 @@ ghost use Rattle.machine.specs.Sequence.{All-numbered};
 ghost use Rattle.machine.specs.Example.{Examples};
 ghost use Rattle.machine.specs.Finish.{Finish-example, One-finish, One-table, Finish-bounds, Finish-accepts, Order-example};
 ghost use Rattle.machine.specs.Universal.{Finish-extends};
+ghost use Rattle.machine.specs.Worked.{Worked};
 
 pub fn invariance_stands() -> u8
     ensures { λ _. ⌜ Invariance-of-calls ⌝ }
@@ -104,6 +105,12 @@ pub fn order_example_stands() -> u8
 
 pub fn finish_accepts_stands() -> u8
     ensures { λ _. ⌜ Finish-accepts ⌝ }
+{
+    0
+}
+
+pub fn worked_stands() -> u8
+    ensures { λ _. ⌜ Worked ⌝ }
 {
     0
 }
