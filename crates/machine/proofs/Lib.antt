@@ -12,6 +12,7 @@ pub mod Tests
 pub mod Loads
 pub mod Promised
 pub mod Lost
+pub mod Worked
 pub mod Typed
 pub mod Finished
 pub mod Count

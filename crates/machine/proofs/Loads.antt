@@ -1,6 +1,6 @@
 -- What an accepted load is: a well-formed problem, a source of its shape, and what was taken of both.
 use mathlib.Core.Path.{_≡_, refl, sym, ap, subst, _∙_}
-use mathlib.Core.Bool.{Bool, true, false, cond, not, _&&_, _||_}
+use mathlib.Core.Bool.{false, not}
 use mathlib.Core.List.{List, [], _∷_}
 use Prim.Native.Nat.{ℕ, zero, suc, _+_, _≤_, _<_}
 use native.Mathlib.Omega.{arith}
@@ -13,7 +13,7 @@ use Rattle.std.specs.declared.option.Option.the-variants.{Some, None}
 use Rattle.std.specs.declared.result.Result.{Result}
 use Rattle.std.specs.declared.result.Result.the-variants.{Ok, Err}
 use Rattle.words.specs.declared.faults.SchemaFault.{SchemaFault}
-use Rattle.problems.specs.Problem.{Link, Rule, Problem, no-link, read}
+use Rattle.problems.specs.Problem.{Link, Problem, no-link, read}
 use Rattle.problems.specs.Places.{Walks, no-rule}
 use Rattle.problems.specs.Layout.{Good-link, Good-rule, Good-map, Maps, Well-formed}
 use Rattle.problems.proofs.Laying.{read-layouts}

@@ -13,16 +13,15 @@ use Rattle.std.specs.declared.result.Result.{Result}
 use Rattle.std.specs.declared.result.Result.the-variants.{Ok, Err}
 use Rattle.words.specs.declared.faults.Refusal.{Refusal}
 use Rattle.words.specs.declared.faults.Refusal.the-variants as refusal
-use Rattle.registers.specs.Meaning.{Meaning}
 use Rattle.machine.specs.Loaded.{Loaded}
-use Rattle.machine.specs.Loading.{load}
 use Rattle.machine.specs.State.{State, start}
-use Rattle.machine.specs.Shift.{Call, calls}
+use Rattle.machine.specs.Shift.{calls}
 use Rattle.machine.specs.Complete.{Complete}
-use Rattle.machine.specs.Finish.{finish-words, finish-fault, put-words, One-finish, Finish-accepts}
-use Rattle.machine.specs.Promise.{Finishes, Promised, Promise}
+use Rattle.machine.specs.Finish.{finish-words, finish-fault, put-words}
+use Rattle.machine.specs.Promise.{Finishes, Promise}
 use Rattle.machine.proofs.Runs.{invariance-of-calls}
 use Rattle.machine.proofs.Finished.{complete-keeps}
+use Rattle.machine.proofs.Written.{one-finish, finish-accepts}
 use Rattle.machine.proofs.Loads.{accepted, taken-from, same-load}
 
 -- words that were put stand at the front of the output
@@ -38,10 +37,10 @@ put-told None ws out n e = (refl, room-told (leb (length ws) (length out)) ws ou
 finishes-told : (L : Loaded) (s : State) (vs : List ℕ) → Finishes L s vs → (finish-fault L s ≡ None) × (vs ≡ finish-words L s)
 finishes-told L s vs f = let t = put-told (finish-fault L s) (finish-words L s) (f .0) (f .1) (f .2) in (t .0, sym (f .3) ∙ t .1)
 
-pub promise-from : One-finish → Finish-accepts → Promise
-promise-from one accepts work ws m L e cs =
+pub promise : Promise
+promise work ws m L e cs =
   let acc = accepted work ws m L e in
-  let done = λ (vs : List ℕ) (f : Finishes L (calls L cs start) vs). accepts L acc cs .0 (finishes-told L (calls L cs start) vs f .0) in
+  let done = λ (vs : List ℕ) (f : Finishes L (calls L cs start) vs). finish-accepts L acc cs .0 (finishes-told L (calls L cs start) vs f .0) in
   record {
     source = taken-from work ws m L e;
     one-reading = invariance-of-calls L acc cs;
@@ -50,8 +49,8 @@ promise-from one accepts work ws m L e cs =
     same-words = λ work′ K d ds us vs f g.
       let q = same-load work ws m L e work′ K d in
       let t = finishes-told K (calls K ds start) vs g in
-      let c = accepts K (accepted work′ ws m K d) ds .0 (t .0) in
+      let c = finish-accepts K (accepted work′ ws m K d) ds .0 (t .0) in
       finishes-told L (calls L cs start) us f .1
-      ∙ (one L acc (L .capacity) (K .capacity) cs ds (done us f) (subst (λ M. Complete M (calls M ds start)) q c)
+      ∙ (one-finish L acc (L .capacity) (K .capacity) cs ds (done us f) (subst (λ M. Complete M (calls M ds start)) q c)
       ∙ (ap (λ M. finish-words M (calls M ds start)) (sym q) ∙ sym (t .1)))
   }

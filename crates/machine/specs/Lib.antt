@@ -21,3 +21,4 @@ pub mod Progress
 pub mod ReadBack
 pub mod Refused
 pub mod Promise
+pub mod Worked

@@ -9,7 +9,7 @@ use Rattle.registers.specs.Meaning.{Meaning}
 use Rattle.machine.specs.Loaded.{Loaded}
 use Rattle.machine.specs.Loading.{load}
 use Rattle.machine.specs.State.{cell, landing, State, start}
-use Rattle.machine.specs.Readings.{One-reading}
+use Rattle.machine.specs.Readings.{Accepted, One-reading}
 use Rattle.machine.specs.Complete.{Keeps}
 use Rattle.machine.specs.Shift.{Call, calls}
 use Rattle.machine.specs.Finish.{finish-words, finish}
@@ -40,6 +40,10 @@ pub record Promised (ws : List ℕ) (m : Meaning) (L : Loaded) (s : State) : Typ
   -- and the words are those of the numbering, the same for every other table of the same problem words and source meaning
   pub numbered : (vs : List ℕ) → Finishes L s vs → vs ≡ finish-words L s
   pub same-words : (work : ℕ) (K : Loaded) → load work ws m ≡ Ok K → (ds : List Call) (us vs : List ℕ) → Finishes L s us → Finishes K (calls K ds start) vs → us ≡ vs
+
+-- what load accepts is a well-formed problem and a source that fits it
+abbrev pub Loads-accepted : Type 0
+Loads-accepted = (work : ℕ) (ws : List ℕ) (m : Meaning) (L : Loaded) → load work ws m ≡ Ok L → Accepted L × Taken-from m L
 
 abbrev pub Promise : Type 0
 Promise = (work : ℕ) (ws : List ℕ) (m : Meaning) (L : Loaded) → load work ws m ≡ Ok L → (cs : List Call) → Promised ws m L (calls L cs start)

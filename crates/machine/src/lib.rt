@@ -1,6 +1,5 @@
 // The machine of a table: its definitions stand in specs/, and its laws here, each as the contract of a function that does nothing.
-ghost use Rattle.machine.specs.Accepts.{Loads-accepted};
-ghost use Rattle.machine.specs.Promise.{Promise};
+ghost use Rattle.machine.specs.Promise.{Loads-accepted, Promise};
 ghost use Rattle.machine.specs.ReadBack.{Finish-reads-back};
 ghost use Rattle.machine.specs.Shift.{All-reached, All-room, All-within, All-kinds};
 ghost use Rattle.machine.specs.Complete.{Complete-when-done};
@@ -9,6 +8,7 @@ ghost use Rattle.machine.specs.Sequence.{All-numbered};
 ghost use Rattle.machine.specs.Universal.{Finish-extends};
 ghost use Rattle.machine.specs.Lost.{Nothing-lost, Never-lost};
 ghost use Rattle.machine.specs.Refused.{Refusals-change-nothing};
+ghost use Rattle.machine.specs.Worked.{Worked};
 
 pub mod answers;
 
@@ -120,6 +120,13 @@ pub fn never_lost_stands() -> u8
 // A refused call changes nothing.
 pub fn refusals_stand() -> u8
     ensures { λ _. ⌜ Refusals-change-nothing ⌝ }
+{
+    0
+}
+
+// The worked examples, computed through the definitions.
+pub fn worked_stands() -> u8
+    ensures { λ _. ⌜ Worked ⌝ }
 {
     0
 }
