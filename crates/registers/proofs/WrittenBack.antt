@@ -44,11 +44,11 @@ module _ (m : Meaning) (old : List ℕ) where
 
       pub answer-memory : length old < length (file-words m) → (Err Memory, old) ≡ written m old
       answer-memory q = sym (ap (λ w. put w old) words-are
-        ∙ ap (λ b. cond b (Ok (length (file-words m)), file-words m ++ drop (length (file-words m)) old) (Err Memory, old)) (lt-leb _ _ q))
+          ∙ ap (λ b. cond b (Ok (length (file-words m)), file-words m ++ drop (length (file-words m)) old) (Err Memory, old)) (lt-leb _ _ q))
 
       pub answer-words : (n : ℕ) (out : List ℕ) → n ≡ length (file-words m) → out ≡ file-words m ++ drop (length (file-words m)) old → n ≤ length old → (Ok n, out) ≡ written m old
       answer-words n out p q h = (λ i. (Ok (p i), q i)) ∙ sym (ap (λ w. put w old) words-are
-        ∙ ap (λ b. cond b (Ok (length (file-words m)), file-words m ++ drop (length (file-words m)) old) (Err Memory, old)) (le-leb _ _ (omega arith)))
+          ∙ ap (λ b. cond b (Ok (length (file-words m)), file-words m ++ drop (length (file-words m)) old) (Err Memory, old)) (le-leb _ _ (omega arith)))
 
 -- an accepted write passed the tests
 words-told : (b : Bool) (o : Option ℕ) (xs ws : List ℕ) → cond b (Err Large) (unless-broken o xs) ≡ Ok ws → (b ≡ false) × (o ≡ None) × (xs ≡ ws)
@@ -57,7 +57,7 @@ words-told false (Some l) xs ws e = absurd (let z : _≡_ {A = ℕ} 0 1 = cc in 
 words-told false None xs ws e = (refl, refl, cc)
 
 room-told : (b : Bool) (ws old out : List ℕ) (n : ℕ)
-  → _≡_ {A = Result ℕ WriteFault × List ℕ} (Ok n, out) (cond b (Ok (length ws), ws ++ drop (length ws) old) (Err Memory, old)) → take n out ≡ ws
+    → _≡_ {A = Result ℕ WriteFault × List ℕ} (Ok n, out) (cond b (Ok (length ws), ws ++ drop (length ws) old) (Err Memory, old)) → take n out ≡ ws
 room-told true ws old out n e =
     let p : Ok n ≡ Ok (length ws) = ap (λ t. t .0) e in
     let q : n ≡ length ws = cc in
@@ -96,10 +96,11 @@ module _ (f : File) (w : Well-formed f) where
         from-known = j .from-known;
         to-known = j .to-known;
         leads = λ r q.
-          let k : r < length (row-at f l .leads) = omega (arith, j .full) in
-          let e = lead-at l r h k in
-          let s = all-getD (λ x. x < getD (f .counts) (row-at f l .to) 0) (row-at f l .leads) r 0 k (j .counted) in
-          (follow-at l r h k ∙ ap Some (sym e), omega arith) }
+            let k : r < length (row-at f l .leads) = omega (arith, j .full) in
+            let e = lead-at l r h k in
+            let s = all-getD (λ x. x < getD (f .counts) (row-at f l .to) 0) (row-at f l .leads) r 0 k (j .counted) in
+            (follow-at l r h k ∙ ap Some (sym e), omega arith);
+      }
 
   unbroken-at : (l : ℕ) → l < length (f .links) → broken (answers f) l ≡ false
   unbroken-at l h = link-made (answers f) l (row-at f l .from) (row-at f l .to) (ends-at l h) (joined-at l h)
@@ -107,9 +108,9 @@ module _ (f : File) (w : Well-formed f) where
   not-large : large (answers f) ≡ false
   not-large =
       or-from _ _ (le-ltb 32 (length (f .counts)) (w .few-kinds))
-        (or-from _ _ (le-ltb 64 (length (f .links)) (w .few-links))
-          (none-from (λ k. ltb 65535 (getD (f .counts) k 0)) (length (f .counts))
-            (λ k h. let s = all-getD (λ c. c < 65536) (f .counts) k 0 h (w .small) in le-ltb 65535 (getD (f .counts) k 0) (omega arith))))
+      (or-from _ _ (le-ltb 64 (length (f .links)) (w .few-links))
+      (none-from (λ k. ltb 65535 (getD (f .counts) k 0)) (length (f .counts))
+      (λ k h. let s = all-getD (λ c. c < 65536) (f .counts) k 0 h (w .small) in le-ltb 65535 (getD (f .counts) k 0) (omega arith))))
 
   row-again : (l : ℕ) → l < length (f .links) → row-of (answers f) l ≡ row-at f l
   row-again l h =
@@ -129,7 +130,7 @@ module _ (f : File) (w : Well-formed f) where
       words-are (answers f) [] not-large (lowest-from (broken (answers f)) (length (f .links)) unbroken-at) ∙ ap (λ g. Ok (layout g)) (file-again e)
 
 room-again : (b : Bool) (r : Result ℕ WriteFault) (ws out old : List ℕ) → leb (length ws) (length old) ≡ b → length ws ≤ length out
-  → _≡_ {A = Result ℕ WriteFault × List ℕ} (r, out) (cond b (Ok (length ws), ws ++ drop (length ws) old) (Err Memory, old)) → (r ≡ Ok (length ws)) × (take (length ws) out ≡ ws)
+    → _≡_ {A = Result ℕ WriteFault × List ℕ} (r, out) (cond b (Ok (length ws), ws ++ drop (length ws) old) (Err Memory, old)) → (r ≡ Ok (length ws)) × (take (length ws) out ≡ ws)
 room-again true r ws out old t h e = (ap (λ x. x .0) e, ap (λ x. take (length ws) (x .1)) e ∙ take-at ws (drop (length ws) old) (length ws) refl)
 room-again false r ws out old t h e =
     let p = leb-false (length ws) (length old) t in

@@ -40,8 +40,8 @@ splice-join at b xs ys old h e =
     let n : length front ≡ b = length-append (take at old) xs ∙ ap (λ k. k + length xs) (length-take-le at old h) ∙ e in
     let whole : take at old ++ (xs ++ drop (at + length xs) old) ≡ front ++ drop b old = sym (append-assoc (take at old) xs (drop (at + length xs) old)) ∙ ap (λ k. front ++ drop k old) e in
     let last : drop (b + length ys) (front ++ drop b old) ≡ drop (at + length (xs ++ ys)) old =
-      sym (drop-drop (length ys) b (front ++ drop b old)) ∙ ap (drop (length ys)) (drop-at front (drop b old) b n) ∙ drop-drop (length ys) b old
-      ∙ ap (λ k. drop k old) (let q = length-append xs ys in omega arith) in
+    sym (drop-drop (length ys) b (front ++ drop b old)) ∙ ap (drop (length ys)) (drop-at front (drop b old) b n) ∙ drop-drop (length ys) b old
+    ∙ ap (λ k. drop k old) (let q = length-append xs ys in omega arith) in
     ap (λ l. take b l ++ (ys ++ drop (b + length ys) l)) whole
     ∙ ap (λ l. l ++ (ys ++ drop (b + length ys) (front ++ drop b old))) (take-at front (drop b old) b n)
     ∙ ap (λ l. front ++ (ys ++ l)) last
@@ -54,7 +54,7 @@ splice-then at b xs ys old mid new h e p q = q ∙ ap (spliced b ys) p ∙ splic
 
 -- one more word of a list made by count
 tagged-more : (t : Tag) (f : ℕ → ℕ) (at k v : ℕ) (old mid new : List ℕ) → at ≤ length old → v ≡ f k → mid ≡ spliced at (map (tagged t) (upto f k)) old
-  → new ≡ spliced (at + k) (tagged t v ∷ []) mid → new ≡ spliced at (map (tagged t) (upto f (k + 1))) old
+    → new ≡ spliced (at + k) (tagged t v ∷ []) mid → new ≡ spliced at (map (tagged t) (upto f (k + 1))) old
 unfolding upto
 tagged-more t f at k v old mid new h e p q =
     splice-then at (at + k) (map (tagged t) (upto f k)) (tagged t v ∷ []) old mid new h (ap (λ n. at + n) (length-map (upto f k) (tagged t) ∙ upto-length f k)) p q
@@ -68,7 +68,7 @@ module _ (m : Meaning) where
   counts-none old = splice-none 1 old
 
   pub counts-more : (k v : ℕ) (old mid new : List ℕ) → 1 ≤ length old → v ≡ m .count k → mid ≡ spliced 1 (count-words m k) old
-    → new ≡ spliced (1 + k) (tagged tag.Count v ∷ []) mid → new ≡ spliced 1 (count-words m (k + 1)) old
+      → new ≡ spliced (1 + k) (tagged tag.Count v ∷ []) mid → new ≡ spliced 1 (count-words m (k + 1)) old
   unfolding count-words
   counts-more k v old mid new h e p q = tagged-more tag.Count (m .count) 1 k v old mid new h e p q
 
@@ -77,7 +77,7 @@ module _ (m : Meaning) where
   records-none l at old = splice-none at old
 
   pub records-more : (l at r v : ℕ) (old mid new : List ℕ) → at ≤ length old → v ≡ lead m l r → mid ≡ spliced at (record-words m l r) old
-    → new ≡ spliced (at + r) (tagged tag.Record v ∷ []) mid → new ≡ spliced at (record-words m l (r + 1)) old
+      → new ≡ spliced (at + r) (tagged tag.Record v ∷ []) mid → new ≡ spliced at (record-words m l (r + 1)) old
   unfolding record-words
   records-more l at r v old mid new h e p q = tagged-more tag.Record (lead m l) at r v old mid new h e p q
 
@@ -100,7 +100,7 @@ module _ (m : Meaning) where
   links-start at old = splice-none at old
 
   pub links-more : (at b l : ℕ) (old mid new : List ℕ) → at ≤ length old → b ≡ at + length (links-words m l) → mid ≡ spliced at (links-words m l) old
-    → new ≡ spliced b (row-words m l) mid → new ≡ spliced at (links-words m (l + 1)) old
+      → new ≡ spliced b (row-words m l) mid → new ≡ spliced at (links-words m (l + 1)) old
   links-more at b l old mid new h e p q =
       splice-then at b (links-words m l) (row-words m l) old mid new h (sym e) p q
       ∙ ap (λ x. spliced at x old) (sym (ap (links-words m) (add-one l) ∙ links-suc l))
@@ -114,12 +114,12 @@ module _ (m : Meaning) where
 
   -- the words of a link that has ends
   pub row-parts : (l from to : ℕ) → Some (from, to) ≡ m .ends l
-    → row-words m l ≡ (tagged tag.RegisterLink (from * 256 + to) ∷ []) ++ record-words m l (m .count from)
+      → row-words m l ≡ (tagged tag.RegisterLink (from * 256 + to) ∷ []) ++ record-words m l (m .count from)
   unfolding row-words record-words
   row-parts l from to e = ap (λ o. link-words (row-by m l o)) (sym e)
 
   pub link-put : (l at from to n : ℕ) (old mid new : List ℕ) → at ≤ length old → Some (from, to) ≡ m .ends l → n ≡ m .count from
-    → mid ≡ spliced at (tagged tag.RegisterLink (from * 256 + to) ∷ []) old → new ≡ spliced (at + 1) (record-words m l n) mid → new ≡ spliced at (row-words m l) old
+      → mid ≡ spliced at (tagged tag.RegisterLink (from * 256 + to) ∷ []) old → new ≡ spliced (at + 1) (record-words m l n) mid → new ≡ spliced at (row-words m l) old
   link-put l at from to n old mid new h e c p q =
       splice-then at (at + 1) (tagged tag.RegisterLink (from * 256 + to) ∷ []) (record-words m l n) old mid new h refl p q
       ∙ ap (λ k. spliced at ((tagged tag.RegisterLink (from * 256 + to) ∷ []) ++ record-words m l k) old) c
@@ -136,16 +136,16 @@ module _ (m : Meaning) where
   row-none l e = ap (λ o. length (link-words (row-by m l o))) e
 
   pub file-parts : file-words m
-    ≡ (((tagged tag.Register (m .kinds) ∷ []) ++ count-words m (m .kinds)) ++ links-words m (m .links)) ++ tagged tag.End (1 + m .kinds + length (links-words m (m .links))) ∷ []
+      ≡ (((tagged tag.Register (m .kinds) ∷ []) ++ count-words m (m .kinds)) ++ links-words m (m .links)) ++ tagged tag.End (1 + m .kinds + length (links-words m (m .links))) ∷ []
   unfolding file-words count-words links-words
   file-parts =
       let k = upto-length (m .count) (m .kinds) in
       let head : List ℕ = tagged tag.Register (m .kinds) ∷ map (tagged tag.Count) (upto (m .count) (m .kinds)) in
       let links : List ℕ = joined link-words (upto (row-of m) (m .links)) in
       let b : before-end (file-of m) ≡ head ++ links =
-        ap (λ n. (tagged tag.Register n ∷ map (tagged tag.Count) (upto (m .count) (m .kinds))) ++ (links ++ [])) k ∙ ap (λ l. head ++ l) (append-nil links) in
+      ap (λ n. (tagged tag.Register n ∷ map (tagged tag.Count) (upto (m .count) (m .kinds))) ++ (links ++ [])) k ∙ ap (λ l. head ++ l) (append-nil links) in
       let n : length (head ++ links) ≡ 1 + m .kinds + length links =
-        length-append head links ∙ ap (λ j. suc j + length links) (length-map (upto (m .count) (m .kinds)) (tagged tag.Count) ∙ k) ∙ (omega arith) in
+      length-append head links ∙ ap (λ j. suc j + length links) (length-map (upto (m .count) (m .kinds)) (tagged tag.Count) ∙ k) ∙ (omega arith) in
       ap (λ l. l ++ tagged tag.End (length l) ∷ []) b ∙ ap (λ j. (head ++ links) ++ tagged tag.End j ∷ []) n
 
   pub counts-length : length (count-words m (m .kinds)) ≡ m .kinds
@@ -157,8 +157,8 @@ module _ (m : Meaning) where
 
 -- the four parts of a file, each behind the one before
 pub file-put : (m : Meaning) (k next : ℕ) (old a b c new : List ℕ) → k ≡ m .kinds → a ≡ spliced 0 (tagged tag.Register k ∷ []) old → b ≡ spliced 1 (count-words m (m .kinds)) a
-  → c ≡ spliced (1 + k) (links-words m (m .links)) b → next ≡ 1 + k + length (links-words m (m .links)) → new ≡ spliced next (tagged tag.End next ∷ []) c
-  → new ≡ file-words m ++ drop (length (file-words m)) old
+    → c ≡ spliced (1 + k) (links-words m (m .links)) b → next ≡ 1 + k + length (links-words m (m .links)) → new ≡ spliced next (tagged tag.End next ∷ []) c
+    → new ≡ file-words m ++ drop (length (file-words m)) old
 file-put m k next old a b c new h p q r e s =
     let n = counts-length m in
     let first : List ℕ = tagged tag.Register k ∷ [] in
@@ -167,7 +167,7 @@ file-put m k next old a b c new h p q r e s =
     let two = splice-then 0 1 first counts old a b (omega arith) refl p q in
     let three = splice-then 0 (1 + k) (first ++ counts) links old b c (omega arith) (omega (arith, length-append first counts)) two r in
     splice-then 0 next ((first ++ counts) ++ links) (tagged tag.End next ∷ []) old c new (omega arith)
-      (omega (arith, length-append first counts, length-append (first ++ counts) links)) three s
+    (omega (arith, length-append first counts, length-append (first ++ counts) links)) three s
     ∙ ap (λ j. spliced 0 (((first ++ counts) ++ links) ++ tagged tag.End j ∷ []) old) e
     ∙ ap (λ j. spliced 0 ((((tagged tag.Register j ∷ []) ++ counts) ++ links) ++ tagged tag.End (1 + j + length links) ∷ []) old) h
     ∙ ap (λ x. spliced 0 x old) (sym (file-parts m)) ∙ splice-front (file-words m) old

@@ -99,4 +99,4 @@ Read-back m r out = (n : ℕ) → r ≡ Ok n → (f : File) × (read (take n out
 -- where the meaning is that of a file without landings, the words are those of that file
 abbrev pub Same-words : Meaning → Result ℕ WriteFault → List ℕ → Type 0
 Same-words m r out = (ws : List ℕ) (f : File) → read ws ≡ Ok f → f .landings ≡ [] → answers f ≡ m → length ws ≤ length out
-  → (r ≡ Ok (length ws)) × (take (length ws) out ≡ ws)
+    → (r ≡ Ok (length ws)) × (take (length ws) out ≡ ws)

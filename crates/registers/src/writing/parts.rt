@@ -32,7 +32,8 @@ fn put_records<R: Register>(register: &R, link: u32, n: u32, out: &mut [u32], at
     ensures { λ _. ⌜ now (out .exit) ≡ spliced at (record-words (meaning (now (register .entry))) link n) (now (out .entry)) ⌝ }
 {
     for r in 0..n {
-        put(out, at + r as usize, Tag::Record, register.follow(link, r).unwrap_or(0));
+        let led = register.follow(link, r).unwrap_or(0);
+        put(out, at + r as usize, Tag::Record, led);
     }
 }
 

@@ -28,5 +28,5 @@ returns-then-size-out g c =
 pub returns : need.returns
 returns g c =
     let e = answer-words (g .R·Register .meaning (c .args .register .now)) (c .args .out .now) (sym (c .if-is-large .ensures tt .answer)) (sym (c .in-rest .ensures tt))
-      _ _ (c .put-file .ensures .size) (c .put-file .ensures .words) (omega arith) in
+    _ _ (c .put-file .ensures .size) (c .put-file .ensures .words) (omega arith) in
     record { answer = e; back = read-back _ _ _ _ (c .is-large .ensures .lawful) e; again = same-words _ _ _ _ e }

@@ -22,4 +22,5 @@ returns g c =
     let n = row-length m (c .args .link) (c .in-Some .from) (c .in-Some .to) (c .in-Some .ensures tt) in
     record {
       next = omega arith;
-      words = link-put m (c .args .link) (c .args .at) (c .in-Some .from) (c .in-Some .to) _ _ _ _ (omega arith) (c .in-Some .ensures tt) (c .count-n .ensures) (c .put .ensures) (c .put-records .ensures) }
+      words = link-put m (c .args .link) (c .args .at) (c .in-Some .from) (c .in-Some .to) _ _ _ _ (omega arith) (c .in-Some .ensures tt) (c .count-n .ensures) (c .put .ensures) (c .put-records .ensures);
+    }
