@@ -15,9 +15,9 @@ use Rattle.words.specs.Register.{Row}
 use Rattle.words.specs.Layout.{Good-link, Well-formed}
 use Rattle.registers.specs.Meaning.{Meaning, Lawful, no-row, row-at, answers}
 use Rattle.registers.specs.Writing.{upto, lowest, crowded, large, astray, strays, broken-by, broken, lead, row-by, row-of, file-of}
-use Rattle.registers.specs.Splices.{Leads-fit, Writable, row-words, links-words}
-use Rattle.registers.proofs.WrittenLists.{none-told, none-from, lowest-told, upto-length, upto-at, upto-all}
-use Rattle.registers.proofs.WrittenSplices.{row-length, links-none, links-step}
+use Rattle.registers.specs.Parts.{Leads-fit, Writable, row-words, links-words}
+use Rattle.registers.proofs.WrittenLists.{some-none, none-told, none-from, lowest-told, upto-length, upto-at, upto-all}
+use Rattle.registers.proofs.WrittenParts.{row-length, links-none, links-step}
 
 -- a link that is not broken
 pub record Joined (m : Meaning) (l from to : ℕ) : Type 0 where
@@ -30,7 +30,7 @@ astray-told n None e = absurd (false≢true (sym e))
 astray-told n (Some r) e = (refl, ltb-true r n (not-false (ltb r n) e))
 
 astray-made : (n : ℕ) (o : Option ℕ) → (o ≡ Some (valueOr o 0)) × (valueOr o 0 < n) → astray n o ≡ false
-astray-made n None h = absurd (let e = h .0 in let z : _≡_ {A = ℕ} 0 1 = cc in omega arith)
+astray-made n None h = absurd (some-none (sym (h .0)))
 astray-made n (Some r) h = not-from-true (ltb r n) (lt-ltb r n (h .1))
 
 ends-by : (m : Meaning) (l : ℕ) (o : Option (ℕ × ℕ)) → broken-by m l o ≡ false → (from : ℕ) × (to : ℕ) × (Some (from, to) ≡ o)

@@ -1,5 +1,5 @@
 use native.Mathlib.Omega.{arith}
-use Rattle.registers.proofs.WrittenSplices.{file-length, file-put}
+use Rattle.registers.proofs.WrittenParts.{file-length, file-put}
 use Rattle.registers.proofs.WrittenFiles.{file-fits}
 use Rattle.registers.proofs.writing.parts.put_file.Needs as need
 

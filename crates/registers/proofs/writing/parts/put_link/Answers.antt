@@ -1,5 +1,5 @@
 use native.Mathlib.Omega.{arith}
-use Rattle.registers.proofs.WrittenSplices.{row-length, link-put}
+use Rattle.registers.proofs.WrittenParts.{row-length, link-put}
 use Rattle.registers.proofs.WrittenFiles.{ends-fit, leads-fit}
 use Rattle.registers.proofs.writing.parts.put_link.Needs as need
 

@@ -2,7 +2,7 @@ use mathlib.Core.Path.{_≡_, ap, _∙_}
 use native.Mathlib.Omega.{arith}
 use Rattle.std.specs.Options.{valueOr}
 use Rattle.registers.specs.Writing.{lead}
-use Rattle.registers.proofs.WrittenSplices.{records-none, records-more}
+use Rattle.registers.proofs.WrittenParts.{records-none, records-more}
 use Rattle.registers.proofs.writing.parts.put_records.Needs as need
 
 pub loop-r-holds : need.loop-r-holds
