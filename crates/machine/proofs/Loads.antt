@@ -14,25 +14,28 @@ use Rattle.std.specs.declared.result.Result.{Result}
 use Rattle.std.specs.declared.result.Result.the-variants.{Ok, Err}
 use Rattle.words.specs.declared.faults.SchemaFault.{SchemaFault}
 use Rattle.problems.specs.Problem.{Link, Problem, no-link, read}
-use Rattle.problems.specs.Places.{Walks, no-rule}
-use Rattle.problems.specs.Layout.{Good-link, Good-rule, Good-map, Maps, Well-formed}
-use Rattle.problems.proofs.Laying.{read-layouts}
+use Rattle.problems.specs.Tokens.{no-rule}
+use Rattle.problems.specs.Layout.{Walks, Good-link, Good-rule, Good-map, Well-formed}
+use Rattle.words.specs.Numbered.{Each}
+use Rattle.words.proofs.Inverse.{else-ok}
+use Rattle.problems.proofs.Layouts.{read-layout}
 use Rattle.registers.specs.Meaning.{Meaning}
 use Rattle.registers.specs.Writing.{lowest, astray}
 use Rattle.machine.specs.declared.answers.LoadFault.{LoadFault}
 use Rattle.machine.specs.declared.answers.LoadFault.the-variants as fault
 use Rattle.machine.specs.Loaded.{Loaded}
-use Rattle.machine.specs.Loading.{source-link, other-ends, other-shape, source-records, strays, needed, capacity-of, taken, with-problem, unless-strays, load-problem, load}
+use Rattle.machine.specs.Loading.{source-link, other-ends, other-shape, source-records, link-strays, needed, capacity-of, taken, with-problem, unless-strays, load-problem, load}
 use Rattle.machine.specs.Readings.{Joins, end-kind, Accepted}
 use Rattle.machine.specs.Finish.{with-capacity}
 use Rattle.machine.specs.Promise.{Taken-from}
-use Rattle.machine.proofs.Tests.{none-told, lowest-told, lead-told, passed}
+use Rattle.registers.proofs.WrittenLists.{none-told, lowest-told}
+use Rattle.machine.proofs.Tests.{lead-told}
 
 -- the tests of a source passed
 pub record Fits (p : Problem) (m : Meaning) : Type 0 where
   pub shape : other-shape p m ≡ false
   pub few : source-records p m ≤ 4095
-  pub leads : lowest (strays p m) (length (p .source-links)) ≡ None
+  pub leads : lowest (link-strays p m) (length (p .source-links)) ≡ None
 
 -- an accepted load
 pub record Loads (work : ℕ) (ws : List ℕ) (m : Meaning) (L : Loaded) : Type 0 where
@@ -55,22 +58,22 @@ pub loads : (work : ℕ) (ws : List ℕ) (m : Meaning) (L : Loaded) → load wor
 loads work ws m L e =
   let t = with-problem-told (read ws) (load-problem work ws m) L e in
   let p = t .0 in
-  let a = passed (other-shape p m) fault.Shape _ L (t .2) in
-  let b = passed (ltb 4095 (source-records p m)) fault.Large _ L (a .1) in
-  let c = unless-strays-told (lowest (strays p m) (length (p .source-links))) _ L (b .1) in
-  let d = passed (ltb work (needed ws p m)) fault.Memory _ L (c .1) in
+  let a = else-ok (other-shape p m) _ fault.Shape L (t .2) in
+  let b = else-ok (ltb 4095 (source-records p m)) _ fault.Large L (a .1) in
+  let c = unless-strays-told (lowest (link-strays p m) (length (p .source-links))) _ L (b .1) in
+  let d = else-ok (ltb work (needed ws p m)) _ fault.Memory L (c .1) in
   let q : _≡_ {A = Result Loaded LoadFault} (Ok (taken p m (capacity-of work ws p m))) (Ok L) = d .1 in
   record {
     problem = p;
     reads = t .1;
-    well-formed = read-layouts ws p (t .1) .1;
+    well-formed = read-layout ws p (t .1) .1;
     fits = record { shape = a .0; few = ltb-false 4095 (source-records p m) (b .0); leads = c .0 };
     room = ltb-false work (needed ws p m) (d .0);
     takes = cc
   }
 
 -- the path of each source link is good
-map-at : (ss : List Link) (km : List ℕ) (ts : List Link) (n : ℕ) (qs : List (List ℕ)) → Maps ss km ts n qs → (i j : ℕ) → n + i ≡ j → i < length qs → Good-map ss km ts j (getD qs i [])
+map-at : (ss : List Link) (km : List ℕ) (ts : List Link) (n : ℕ) (qs : List (List ℕ)) → Each (Good-map ss km ts) n qs → (i j : ℕ) → n + i ≡ j → i < length qs → Good-map ss km ts j (getD qs i [])
 map-at ss km ts n [] w i j e h = absurd (omega arith)
 map-at ss km ts n (q ∷ qs) w zero j e h = let d : n ≡ j = omega arith in subst (λ k. Good-map ss km ts k q) d (w .0)
 map-at ss km ts n (q ∷ qs) w (suc i) j e h = map-at ss km ts (n + 1) qs (w .1) i j (omega arith) (omega arith)
@@ -96,7 +99,7 @@ module _ (p : Problem) (m : Meaning) (c : ℕ) where
   module _ (f : Fits p m) where
     lead-at : (i r : ℕ) → i < length (p .source-links) → r < m .count (source-link p i .from) → (m .follow i r ≡ Some (taken p m c .lead i r)) × (taken p m c .lead i r < m .count (source-link p i .to))
     lead-at i r h k = lead-told (m .count (source-link p i .to)) (m .follow i r)
-      (none-told (λ q. astray (m .count (source-link p i .to)) (m .follow i q)) (m .count (source-link p i .from)) (lowest-told (strays p m) (length (p .source-links)) (f .leads) i h) r k)
+      (none-told (λ q. astray (m .count (source-link p i .to)) (m .follow i q)) (m .count (source-link p i .from)) (lowest-told (link-strays p m) (length (p .source-links)) (f .leads) i h) r k)
 
     taken-accepted : Well-formed p → Accepted (taken p m c)
     taken-accepted w =

@@ -26,7 +26,8 @@ use Rattle.machine.specs.Complete.{Complete}
 use Rattle.machine.specs.Finish.{number, entry, count-of, lead-of, at-of, register-file, finished-file, finish-words, Bounds}
 use Rattle.machine.specs.ReadBack.{shown, Reads-back, Finish-reads-back}
 use Rattle.machine.proofs.Capacity.{Whole}
-use Rattle.machine.proofs.Upto.{upto-length, upto-at, upto-all, upto-each, cond-same, upto-told}
+use Rattle.registers.proofs.WrittenLists.{upto-length, upto-at, upto-all}
+use Rattle.machine.proofs.Upto.{upto-each, cond-same, upto-told}
 use Rattle.machine.proofs.Loads.{accepted}
 use Rattle.machine.proofs.Limits.{Limits, load-limits}
 use Rattle.machine.proofs.Written.{whole-calls, finish-accepts}

@@ -1,6 +1,7 @@
 -- The table of worked examples, by one computation.
 use mathlib.Core.Path.{refl}
 use Rattle.words.specs.Items.{items}
+use Rattle.registers.specs.Writing.{upto, some-below, lowest as lowest-below}
 use Rattle.machine.specs.Loading.{sum}
 use Rattle.machine.specs.Merging.{chase, meet}
 use Rattle.machine.specs.Walking.{walk}
@@ -12,5 +13,5 @@ use Rattle.machine.specs.Finish.{tally, before, entry-in}
 use Rattle.machine.specs.Worked.{told, cases, Worked}
 
 pub worked : Worked
-unfolding told cases items sum chase meet walk drain pull take-over rank step shift lowest member nth of-kind of-landings of-cells grown tally before entry-in
+unfolding told cases upto some-below lowest-below items sum chase meet walk drain pull take-over rank step shift lowest member nth of-kind of-landings of-cells grown tally before entry-in
 worked = refl

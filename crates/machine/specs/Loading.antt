@@ -10,9 +10,9 @@ use Rattle.std.specs.declared.result.Result.{Result}
 use Rattle.std.specs.declared.result.Result.the-variants.{Ok, Err}
 use Rattle.words.specs.declared.faults.SchemaFault.{SchemaFault}
 use Rattle.problems.specs.Problem.{Link, Problem, no-link, read}
-use Rattle.problems.specs.Places.{no-rule}
+use Rattle.problems.specs.Tokens.{no-rule}
 use Rattle.registers.specs.Meaning.{Meaning}
-use Rattle.registers.specs.Writing.{some-below, lowest, astray, or-zero}
+use Rattle.registers.specs.Writing.{some-below, lowest, strays, lead}
 use Rattle.machine.specs.declared.answers.LoadFault.{LoadFault}
 use Rattle.machine.specs.declared.answers.LoadFault.the-variants as fault
 use Rattle.machine.specs.Loaded.{Loaded}
@@ -47,8 +47,8 @@ abbrev pub source-leads : Problem → Meaning → ℕ
 source-leads p m = sum (λ i. m .count (source-link p i .from)) (length (p .source-links))
 
 -- a counted record leads to nothing or to an uncounted one
-abbrev pub strays : Problem → Meaning → ℕ → Bool
-strays p m i = some-below (λ r. astray (m .count (source-link p i .to)) (m .follow i r)) (m .count (source-link p i .from))
+abbrev pub link-strays : Problem → Meaning → ℕ → Bool
+link-strays p m i = strays m i (source-link p i .from) (source-link p i .to)
 
 -- the words that a load needs: the problem, a landing for each source record, and where the source's links lead
 abbrev pub needed : List ℕ → Problem → Meaning → ℕ
@@ -76,7 +76,7 @@ taken p m capacity = record {
   kind-map = λ k. getD (p .kind-map) k 0;
   link-map = λ i. getD (p .link-map) i [];
   count = m .count;
-  lead = λ i r. or-zero (m .follow i r);
+  lead = lead m;
   capacity = capacity }
 
 abbrev pub with-problem : Result Problem SchemaFault → (Problem → Result Loaded LoadFault) → Result Loaded LoadFault
@@ -92,7 +92,7 @@ abbrev pub load-problem : ℕ → List ℕ → Meaning → Problem → Result Lo
 load-problem work ws m p =
   cond (other-shape p m) (Err fault.Shape)
     (cond (ltb 4095 (source-records p m)) (Err fault.Large)
-      (unless-strays (lowest (strays p m) (length (p .source-links)))
+      (unless-strays (lowest (link-strays p m) (length (p .source-links)))
         (cond (ltb work (needed ws p m)) (Err fault.Memory) (Ok (taken p m (capacity-of work ws p m))))))
 
 abbrev pub load : ℕ → List ℕ → Meaning → Result Loaded LoadFault

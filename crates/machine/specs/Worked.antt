@@ -14,7 +14,7 @@ use Rattle.words.specs.declared.faults.Refusal.{Refusal}
 use Rattle.words.specs.declared.faults.Refusal.the-variants as refusal
 use Rattle.words.specs.Faults.{fault-of}
 use Rattle.words.specs.Words.{then}
-use Rattle.words.specs.Register.{File}
+use Rattle.register_files.specs.Register.{File}
 use Rattle.registers.specs.Meaning.{Meaning, answers}
 use Rattle.registers.specs.Wheels.{wheel}
 use Rattle.registers.specs.Writing.{upto}
