@@ -19,6 +19,13 @@ use words::reading::starts;
 use words::reading::word;
 use words::tags::Tag;
 
+// How many kinds, links and landings words a register file may have.
+const KINDS: u32 = 32;
+
+const LINKS: usize = 64;
+
+const LANDINGS: usize = 32;
+
 // One record word, which names one of that many records.
 fn counted(words: &[u32], at: usize, size: u32) -> Result<u32, SchemaFault>
     ensures { λ r. ⌜ r ≡ countedOf size (now (words .entry)) at ⌝ }
@@ -61,7 +68,7 @@ fn kinds(words: &[u32]) -> Result<u32, SchemaFault>
     ensures { λ r. ⌜ r ≡ sized (counts-of (now (words .entry))) ⌝ }
 {
     let n = word(words, 0, Tag::Register)?;
-    if n > 32 {
+    if n > KINDS {
         return Err(SchemaFault::Words(WordFault::Limit(0)));
     }
     let _ = counts(words, n)?;
@@ -102,7 +109,7 @@ fn landing(words: &[u32], kinds: u32, room: usize, at: usize) -> Result<usize, S
     if room == 0 {
         return Err(SchemaFault::Words(WordFault::Limit(at)));
     }
-    if (v / 256 % 256) as usize + room != 32 || v % 256 >= kinds {
+    if (v / 256 % 256) as usize + room != LANDINGS || v % 256 >= kinds {
         return Err(SchemaFault::Unknown(at));
     }
     let size = count_at(words, kinds, v % 256);
@@ -113,7 +120,7 @@ fn landing(words: &[u32], kinds: u32, room: usize, at: usize) -> Result<usize, S
 #[derive(Clone, Copy)]
 struct LinkPlaces {
     count: usize,
-    places: [usize; 64],
+    places: [usize; LINKS],
     next: usize,
 }
 
@@ -124,9 +131,9 @@ fn links(words: &[u32], kinds: u32) -> Result<LinkPlaces, SchemaFault>
 {
     let mut at = 1 + kinds as usize;
     let mut count = 0;
-    let mut places = [0; 64];
+    let mut places = [0; LINKS];
     while starts(words, at, Tag::RegisterLink) {
-        let next = link(words, kinds, 64 - count, at)?;
+        let next = link(words, kinds, LINKS - count, at)?;
         places[count] = at;
         count += 1;
         at = next;
@@ -141,7 +148,7 @@ fn landings(words: &[u32], kinds: u32, start: usize) -> Result<usize, SchemaFaul
     let mut at = start;
     let mut count = 0;
     while starts(words, at, Tag::Landings) {
-        at = landing(words, kinds, 32 - count, at)?;
+        at = landing(words, kinds, LANDINGS - count, at)?;
         count += 1;
     }
     Ok(at)
@@ -152,7 +159,7 @@ fn landings(words: &[u32], kinds: u32, start: usize) -> Result<usize, SchemaFaul
 pub struct Outline {
     pub kinds: u32,
     pub links: usize,
-    pub places: [usize; 64],
+    pub places: [usize; LINKS],
 }
 
 // Reads a register file through, or tells the first fault.

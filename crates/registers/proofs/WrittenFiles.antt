@@ -15,9 +15,9 @@ use Rattle.register_files.specs.Register.{Row}
 use Rattle.register_files.specs.Layout.{Good-link, Well-formed}
 use Rattle.registers.specs.Meaning.{Meaning, Lawful, no-row, row-at, answers}
 use Rattle.registers.specs.Writing.{upto, lowest, crowded, large, astray, strays, broken-by, broken, lead, row-by, row-of, file-of}
-use Rattle.registers.specs.Splices.{Leads-fit, Writable, row-words, links-words}
-use Rattle.registers.proofs.WrittenLists.{none-told, none-from, lowest-told, upto-length, upto-at, upto-all}
-use Rattle.registers.proofs.WrittenSplices.{row-length, links-none, links-step}
+use Rattle.registers.specs.Parts.{Leads-fit, Writable, row-words, links-words}
+use Rattle.registers.proofs.WrittenLists.{some-none, none-told, none-from, lowest-told, upto-length, upto-at, upto-all}
+use Rattle.registers.proofs.WrittenParts.{row-length, links-none, links-step}
 
 -- a link that is not broken
 pub record Joined (m : Meaning) (l from to : ℕ) : Type 0 where
@@ -30,7 +30,7 @@ astray-told n None e = absurd (false≢true (sym e))
 astray-told n (Some r) e = (refl, ltb-true r n (not-false (ltb r n) e))
 
 astray-made : (n : ℕ) (o : Option ℕ) → (o ≡ Some (valueOr o 0)) × (valueOr o 0 < n) → astray n o ≡ false
-astray-made n None h = absurd (let e = h .0 in let z : _≡_ {A = ℕ} 0 1 = cc in omega arith)
+astray-made n None h = absurd (some-none (sym (h .0)))
 astray-made n (Some r) h = not-from-true (ltb r n) (lt-ltb r n (h .1))
 
 ends-by : (m : Meaning) (l : ℕ) (o : Option (ℕ × ℕ)) → broken-by m l o ≡ false → (from : ℕ) × (to : ℕ) × (Some (from, to) ≡ o)
@@ -48,13 +48,14 @@ module _ (m : Meaning) (l : ℕ) where
       record {
         from-known = ltb-true _ _ (k .0);
         to-known = ltb-true _ _ (k .1);
-        leads = λ r q. astray-told (m .count to) (m .follow l r) (none-told (λ j. astray (m .count to) (m .follow l j)) (m .count from) (h .1) r q) }
+        leads = λ r q. astray-told (m .count to) (m .follow l r) (none-told (λ j. astray (m .count to) (m .follow l j)) (m .count from) (h .1) r q);
+      }
 
   pub link-made : (from to : ℕ) → Some (from, to) ≡ m .ends l → Joined m l from to → broken m l ≡ false
   link-made from to e j =
       sym (ap (broken-by m l) e)
       ∙ or-from _ _ (not-from-true _ (and-from _ _ (lt-ltb from (m .kinds) (j .from-known)) (lt-ltb to (m .kinds) (j .to-known))))
-        (none-from (λ r. astray (m .count to) (m .follow l r)) (m .count from) (λ r q. astray-made (m .count to) (m .follow l r) (j .leads r q)))
+      (none-from (λ r. astray (m .count to) (m .follow l r)) (m .count from) (λ r q. astray-made (m .count to) (m .follow l r) (j .leads r q)))
 
 pub writable : (m : Meaning) → large m ≡ false → lowest (broken m) (m .links) ≡ None → Writable m
 writable m h k =
@@ -64,7 +65,8 @@ writable m h k =
       few-kinds = ltb-false _ _ (a .0);
       few-links = ltb-false _ _ (b .0);
       small = λ j q. let s = ltb-false 65535 (m .count j) (none-told (λ i. ltb 65535 (m .count i)) (m .kinds) (b .1) j q) in omega arith;
-      unbroken = lowest-told (broken m) (m .links) k }
+      unbroken = lowest-told (broken m) (m .links) k;
+    }
 
 -- what the words of a link ask
 module _ (m : Meaning) (w : Writable m) (l from to : ℕ) (h : l < m .links) (e : Some (from, to) ≡ m .ends l) where
@@ -92,7 +94,7 @@ file-fits m w = omega (arith, w .few-kinds, w .few-links, links-fit m w (m .link
 
 -- two meanings with the same answers
 same-meaning : (a b : Meaning) → a .kinds ≡ b .kinds → a .links ≡ b .links → ((l : ℕ) → a .ends l ≡ b .ends l) → ((k : ℕ) → a .count k ≡ b .count k)
-  → ((l r : ℕ) → a .follow l r ≡ b .follow l r) → a ≡ b
+    → ((l r : ℕ) → a .follow l r ≡ b .follow l r) → a ≡ b
 same-meaning a b p q e c f = λ i. record { kinds = p i; links = q i; ends = λ l. e l i; count = λ k. c k i; follow = λ l r. f l r i }
 
 module _ (m : Meaning) (w : Writable m) where
@@ -108,7 +110,8 @@ module _ (m : Meaning) (w : Writable m) where
         to-known = omega (arith, j .to-known);
         full = upto-length (lead m l) (m .count from) ∙ sym (upto-at (m .count) (m .kinds) from 0 (j .from-known));
         counted = upto-all (lead m l) (λ r. r < getD (upto (m .count) (m .kinds)) to 0) (m .count from)
-          (λ r q. rw (upto-at (m .count) (m .kinds) to 0 (j .to-known)) (j .leads r q .1)) })
+            (λ r q. rw (upto-at (m .count) (m .kinds) to 0 (j .to-known)) (j .leads r q .1));
+      })
 
   pub well-formed : Well-formed (file-of m)
   well-formed =
@@ -120,7 +123,8 @@ module _ (m : Meaning) (w : Writable m) where
         few-links = omega (arith, w .few-links);
         links = upto-all (row-of m) (Good-link (upto (m .count) (m .kinds))) (m .links) good-row;
         few-landings = omega arith;
-        landings = tt }
+        landings = tt;
+      }
 
   row-here : (l from to : ℕ) → l < m .links → Some (from, to) ≡ m .ends l → row-at (file-of m) l ≡ row-by m l (Some (from, to))
   row-here l from to h e = upto-at (row-of m) (m .links) l no-row h ∙ ap (row-by m l) (sym e)
@@ -135,8 +139,8 @@ module _ (m : Meaning) (w : Writable m) where
     ends-same : (l : ℕ) → answers (file-of m) .ends l ≡ m .ends l
     ends-same l = ⊎-elim
         (λ (h : l < m .links).
-          let t = ends-told m l (w .unbroken l h) in
-          cond-true _ _ None (known l h) ∙ ap (λ (r : Row). Some (r .from, r .to)) (row-here l (t .0) (t .1) h (t .2)) ∙ t .2)
+        let t = ends-told m l (w .unbroken l h) in
+        cond-true _ _ None (known l h) ∙ ap (λ (r : Row). Some (r .from, r .to)) (row-here l (t .0) (t .1) h (t .2)) ∙ t .2)
         (λ (h : m .links ≤ l). cond-false _ _ None (unknown l h) ∙ sym (law .unknown-link l h))
         (cases-lt l (m .links))
 
@@ -147,24 +151,24 @@ module _ (m : Meaning) (w : Writable m) where
         (cases-lt k (m .kinds))
 
     leads-same : (l r from to : ℕ) → Some (from, to) ≡ m .ends l → l < m .links
-      → cond (ltb r (length (upto (lead m l) (m .count from)))) (Some (getD (upto (lead m l) (m .count from)) r 0)) None ≡ m .follow l r
+        → cond (ltb r (length (upto (lead m l) (m .count from)))) (Some (getD (upto (lead m l) (m .count from)) r 0)) None ≡ m .follow l r
     leads-same l r from to e h =
         let j = link-told m l from to e (w .unbroken l h) in
         let n = upto-length (lead m l) (m .count from) in
         ⊎-elim
-          (λ (q : r < m .count from). cond-true _ _ None (lt-ltb r (length (upto (lead m l) (m .count from))) (omega arith))
-            ∙ ap Some (upto-at (lead m l) (m .count from) r 0 q) ∙ sym (j .leads r q .0))
-          (λ (q : m .count from ≤ r). cond-false _ _ None (le-ltb r (length (upto (lead m l) (m .count from))) (omega arith))
-            ∙ sym (law .leads-uncounted l r (from, to) (sym e) q))
-          (cases-lt r (m .count from))
+        (λ (q : r < m .count from). cond-true _ _ None (lt-ltb r (length (upto (lead m l) (m .count from))) (omega arith))
+        ∙ ap Some (upto-at (lead m l) (m .count from) r 0 q) ∙ sym (j .leads r q .0))
+        (λ (q : m .count from ≤ r). cond-false _ _ None (le-ltb r (length (upto (lead m l) (m .count from))) (omega arith))
+        ∙ sym (law .leads-uncounted l r (from, to) (sym e) q))
+        (cases-lt r (m .count from))
 
     follow-same : (l r : ℕ) → answers (file-of m) .follow l r ≡ m .follow l r
     follow-same l r = ⊎-elim
         (λ (h : l < m .links).
-          let t = ends-told m l (w .unbroken l h) in
-          cond-true _ _ None (known l h)
-          ∙ ap (λ (x : Row). cond (ltb r (length (x .leads))) (Some (getD (x .leads) r 0)) None) (row-here l (t .0) (t .1) h (t .2))
-          ∙ leads-same l r (t .0) (t .1) (t .2) h)
+        let t = ends-told m l (w .unbroken l h) in
+        cond-true _ _ None (known l h)
+        ∙ ap (λ (x : Row). cond (ltb r (length (x .leads))) (Some (getD (x .leads) r 0)) None) (row-here l (t .0) (t .1) h (t .2))
+        ∙ leads-same l r (t .0) (t .1) (t .2) h)
         (λ (h : m .links ≤ l). cond-false _ _ None (unknown l h) ∙ sym (law .leads-unknown l r h))
         (cases-lt l (m .links))
 

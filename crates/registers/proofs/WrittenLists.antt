@@ -15,16 +15,19 @@ use Rattle.std.specs.declared.option.Option.{Option}
 use Rattle.std.specs.declared.option.Option.the-variants.{Some, None}
 use Rattle.registers.specs.Writing.{upto, some-below, or-here, lowest, astray}
 
+pub some-none : {X : Type 0} {x : X} → Some x ≡ None → ⊥
+some-none e = let z : _≡_ {A = ℕ} 0 1 = cc in omega arith
+
 -- what holds below n and at n holds below its successor
 below : (P : ℕ → Type 0) (n : ℕ) → ((k : ℕ) → k < n → P k) → P n → (k : ℕ) → k < suc n → P k
 below P n h e k l = ⊎-elim (h k) (λ (q : n ≤ k). let s : n ≡ k = omega arith in rw s at e) (cases-lt k n)
 
 or-here-none : (a b : Option ℕ) → or-here a b ≡ None → (a ≡ None) × (b ≡ None)
-or-here-none (Some x) b e = absurd (let z : _≡_ {A = ℕ} 0 1 = cc in omega arith)
+or-here-none (Some x) b e = absurd (some-none e)
 or-here-none None b e = (refl, e)
 
 cond-none : (b : Bool) (n : ℕ) → cond b (Some n) None ≡ None → b ≡ false
-cond-none true n e = absurd (let z : _≡_ {A = ℕ} 0 1 = cc in omega arith)
+cond-none true n e = absurd (some-none e)
 cond-none false n e = refl
 
 module _ (p : ℕ → Bool) where

@@ -5,4 +5,5 @@ pub mod Turning
 pub mod Blanks
 pub mod Writing
 pub mod Splices
+pub mod Parts
 pub mod WriteFaults

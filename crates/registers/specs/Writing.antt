@@ -76,17 +76,24 @@ row-of m l = row-by m l (m .ends l)
 abbrev pub file-of : Meaning → File
 file-of m = record { counts = upto (m .count) (m .kinds); links = upto (row-of m) (m .links); landings = [] }
 
-abbrev pub unless-broken : Option ℕ → List ℕ → Result (List ℕ) WriteFault
-unless-broken (Some l) ws = Err (Leads l)
-unless-broken None ws = Ok ws
+-- the first refusal, or the words
+abbrev pub unless-refused : Bool → Option ℕ → List ℕ → Result (List ℕ) WriteFault
+unless-refused true o ws = Err Large
+unless-refused false (Some l) ws = Err (Leads l)
+unless-refused false None ws = Ok ws
 
 -- the words of a register, or why it has none
 abbrev pub words-of : Meaning → Result (List ℕ) WriteFault
-words-of m = cond (large m) (Err Large) (unless-broken (lowest (broken m) (m .links)) (layout (file-of m)))
+words-of m = unless-refused (large m) (lowest (broken m) (m .links)) (layout (file-of m))
+
+-- words at the front of the output, if there is room for them
+abbrev pub in-room : Bool → List ℕ → List ℕ → Result ℕ WriteFault × List ℕ
+in-room true ws out = (Ok (length ws), ws ++ drop (length ws) out)
+in-room false ws out = (Err Memory, out)
 
 abbrev pub put : Result (List ℕ) WriteFault → List ℕ → Result ℕ WriteFault × List ℕ
 put (Err e) out = (Err e, out)
-put (Ok ws) out = cond (leb (length ws) (length out)) (Ok (length ws), ws ++ drop (length ws) out) (Err Memory, out)
+put (Ok ws) out = in-room (leb (length ws) (length out)) ws out
 
 -- the answer of a write, and the output after it
 abbrev pub written : Meaning → List ℕ → Result ℕ WriteFault × List ℕ
@@ -99,4 +106,4 @@ Read-back m r out = (n : ℕ) → r ≡ Ok n → (f : File) × (read (take n out
 -- where the meaning is that of a file without landings, the words are those of that file
 abbrev pub Same-words : Meaning → Result ℕ WriteFault → List ℕ → Type 0
 Same-words m r out = (ws : List ℕ) (f : File) → read ws ≡ Ok f → f .landings ≡ [] → answers f ≡ m → length ws ≤ length out
-  → (r ≡ Ok (length ws)) × (take (length ws) out ≡ ws)
+    → (r ≡ Ok (length ws)) × (take (length ws) out ≡ ws)

@@ -20,7 +20,7 @@ use Rattle.register_files.specs.Register.{File, read}
 use Rattle.registers.specs.declared.writing.WriteFault.{WriteFault}
 use Rattle.registers.specs.declared.writing.WriteFault.the-variants.{Memory}
 use Rattle.registers.specs.Holding.{kept}
-use Rattle.registers.specs.Writing.{put}
+use Rattle.registers.specs.Writing.{put, in-room}
 use Rattle.streams.specs.Order.{bytesOf, wordsOf}
 use Rattle.streams.specs.Unblank.{whole, faulted, within, unblanked, answer, held, sent}
 use Rattle.streams.proofs.Ordered.{words-length, words-take}
@@ -69,28 +69,25 @@ pub answer-file : (bs : List ℕ) (f : File) → length bs ≤ 32768 → read (w
 answer-file bs f short e = answer-short bs short ∙ ap (λ r. then (faulted schema-fault r) unblanked) e
 
 -- what a write tells of its 8,192 words
-abbrev put-by : List ℕ → List ℕ → Bool → Result ℕ WriteFault × List ℕ
-put-by ws out b = cond b (Ok (length ws), ws ++ drop (length ws) out) (Err Memory, out)
-
-refused-by : (ws out : List ℕ) (b : Bool) (x : WriteFault) → put-by ws out b .0 ≡ Err x → cond b (Ok ws) (Err Memory) ≡ Err x
+refused-by : (ws out : List ℕ) (b : Bool) (x : WriteFault) → in-room b ws out .0 ≡ Err x → cond b (Ok ws) (Err Memory) ≡ Err x
 refused-by ws out true x e = absurd (apart e)
 refused-by ws out false x e = let m : Memory ≡ x = cc in ap Err m
 
 pub write-refused : (r : Result (List ℕ) WriteFault) (out after : List ℕ) (x : WriteFault) → length out ≡ 8192
     → _≡_ {A = Result ℕ WriteFault × List ℕ} (Err x, after) (put r out) → within 8192 r ≡ Err x
 write-refused (Ok ws) out after x room e =
-    refused-by ws out (leb (length ws) 8192) x (subst (λ n. put-by ws out (leb (length ws) n) .0 ≡ Err x) room (sym (ap (λ p. p .0) e)))
+    refused-by ws out (leb (length ws) 8192) x (subst (λ n. in-room (leb (length ws) n) ws out .0 ≡ Err x) room (sym (ap (λ p. p .0) e)))
 write-refused (Err y) out after x room e = sym (ap (λ p. giving [] (p .0)) e)
 
-done-by : (ws out : List ℕ) (b : Bool) (n : ℕ) → put-by ws out b .0 ≡ Ok n
-    → (n ≡ length ws) × (b ≡ true) × (cond b (Ok ws) (Err Memory) ≡ Ok (take n (put-by ws out b .1)))
+done-by : (ws out : List ℕ) (b : Bool) (n : ℕ) → in-room b ws out .0 ≡ Ok n
+  → (n ≡ length ws) × (b ≡ true) × (cond b (Ok ws) (Err Memory) ≡ Ok (take n (in-room b ws out .1)))
 done-by ws out true n e = let m : n ≡ length ws = cc in (m, refl, ap Ok (sym (take-at ws (drop (length ws) out) n (sym m))))
 done-by ws out false n e = absurd (apart (sym e))
 
 pub write-done : (r : Result (List ℕ) WriteFault) (out after : List ℕ) (n : ℕ) → length out ≡ 8192
     → _≡_ {A = Result ℕ WriteFault × List ℕ} (Ok n, after) (put r out) → (n ≤ 8192) × (within 8192 r ≡ Ok (take n after))
 write-done (Ok ws) out after n room e =
-    let by : ℕ → Result ℕ WriteFault × List ℕ = λ k. put-by ws out (leb (length ws) k) in
+    let by : ℕ → Result ℕ WriteFault × List ℕ = λ k. in-room (leb (length ws) k) ws out in
     let d = done-by ws out (leb (length ws) 8192) n (subst (λ k. by k .0 ≡ Ok n) room (sym (ap (λ p. p .0) e))) in
     let small : length ws ≤ 8192 = leb-true (length ws) 8192 (d .1) in
     (omega arith, d .2 ∙ ap (λ k. Ok (take n (by k .1))) (sym room) ∙ ap (λ p. Ok (take n (p .1))) (sym e))

@@ -4,7 +4,7 @@ ghost use Prim.Native.Nat.{_≤_};
 ghost use lib.ListN.{length};
 ghost use Rattle.registers.specs.Meaning.{Lawful};
 ghost use Rattle.registers.specs.Writing.{crowded, large, astray as astrayOf, strays as straysOf, broken, lowest};
-ghost use Rattle.registers.specs.Splices.{file-words, row-words, links-words};
+ghost use Rattle.registers.specs.Parts.{file-words, row-words, links-words};
 use crate::register::Register;
 
 // Whether a kind has more than 65,535 records.

@@ -4,7 +4,8 @@ ghost use mathlib.Core.List.{[], _∷_, _++_};
 ghost use Prim.Native.Nat.{_+_, _<_, _≤_};
 ghost use lib.ListN.{length, drop};
 ghost use Rattle.words.specs.Tags.{tagged};
-ghost use Rattle.registers.specs.Splices.{spliced, file-words, row-words, count-words, record-words, links-words, Leads-fit, Writable};
+ghost use Rattle.registers.specs.Splices.{spliced};
+ghost use Rattle.registers.specs.Parts.{file-words, row-words, count-words, record-words, links-words, Leads-fit, Writable};
 use crate::register::Register;
 use words::tags::Tag;
 
@@ -32,7 +33,8 @@ fn put_records<R: Register>(register: &R, link: u32, n: u32, out: &mut [u32], at
     ensures { λ _. ⌜ now (out .exit) ≡ spliced at (record-words (meaning (now (register .entry))) link n) (now (out .entry)) ⌝ }
 {
     for r in 0..n {
-        put(out, at + r as usize, Tag::Record, register.follow(link, r).unwrap_or(0));
+        let led = register.follow(link, r).unwrap_or(0);
+        put(out, at + r as usize, Tag::Record, led);
     }
 }
 
@@ -44,6 +46,7 @@ fn put_link<R: Register>(register: &R, link: u32, out: &mut [u32], at: usize) ->
     ensures words { λ _. ⌜ now (out .exit) ≡ spliced at (row-words (meaning (now (register .entry))) link) (now (out .entry)) ⌝ }
 {
     let Some((from, to)) = register.ends(link) else {
+        // Only a broken link has no ends.
         return at;
     };
     let n = register.count(from);

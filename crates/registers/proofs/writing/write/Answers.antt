@@ -17,7 +17,7 @@ returns-then-is-large g c =
 
 pub returns-in-Some : need.returns-in-Some
 returns-in-Some g c =
-    let e = answer-leads (g .R·Register .meaning (c .args .register .now)) (c .args .out .now) (sym (c .if-is-large .ensures tt .answer)) (c .in-Some .link) (sym (c .in-Some .ensures tt)) in
+    let e = answer-leads (g .R·Register .meaning (c .args .register .now)) (c .args .out .now) (c .in-Some .link) (sym (c .if-is-large .ensures tt .answer)) (sym (c .in-Some .ensures tt)) in
     record { answer = e; back = read-back _ _ _ _ (c .is-large .ensures .lawful) e; again = same-words _ _ _ _ e }
 
 pub returns-then-size-out : need.returns-then-size-out
@@ -27,6 +27,6 @@ returns-then-size-out g c =
 
 pub returns : need.returns
 returns g c =
-    let e = answer-words (g .R·Register .meaning (c .args .register .now)) (c .args .out .now) (sym (c .if-is-large .ensures tt .answer)) (sym (c .in-rest .ensures tt))
-      _ _ (c .put-file .ensures .size) (c .put-file .ensures .words) (omega arith) in
+    let e = answer-words (g .R·Register .meaning (c .args .register .now)) (c .args .out .now) (c .put-file .result) (c .put-file .last .out) (sym (c .if-is-large .ensures tt .answer)) (sym (c .in-rest .ensures tt))
+    (c .put-file .ensures .size) (c .put-file .ensures .words) (omega arith) in
     record { answer = e; back = read-back _ _ _ _ (c .is-large .ensures .lawful) e; again = same-words _ _ _ _ e }

@@ -1,5 +1,5 @@
 use native.Mathlib.Omega.{arith}
-use Rattle.registers.proofs.WrittenSplices.{row-length, row-none}
+use Rattle.registers.proofs.WrittenParts.{row-length, row-none}
 use Rattle.registers.proofs.writing.checks.link_size.Needs as need
 
 pub returns-in-Some : need.returns-in-Some

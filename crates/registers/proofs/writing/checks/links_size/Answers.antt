@@ -1,7 +1,7 @@
 use mathlib.Core.Path.{sym, ap}
 use lib.ListN.{length}
 use native.Mathlib.Omega.{arith}
-use Rattle.registers.proofs.WrittenSplices.{links-none, links-length}
+use Rattle.registers.proofs.WrittenParts.{links-none, links-length}
 use Rattle.registers.proofs.writing.checks.links_size.Needs as need
 
 pub loop-link-holds : need.loop-link-holds

@@ -1,7 +1,7 @@
 use mathlib.Core.Path.{_≡_}
 use Prim.Native.Nat.{_*_, _≤_}
 use lib.ListN.{length}
-use Rattle.registers.specs.Splices.{links-words}
+use Rattle.registers.specs.Parts.{links-words}
 use Rattle.registers.proofs.writing.checks.links_size.Given as given
 
 abbrev pub Inv-loop-link : given.InvT-loop-link

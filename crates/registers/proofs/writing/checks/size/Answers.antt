@@ -1,5 +1,5 @@
 use native.Mathlib.Omega.{arith}
-use Rattle.registers.proofs.WrittenSplices.{file-length}
+use Rattle.registers.proofs.WrittenParts.{file-length}
 use Rattle.registers.proofs.writing.checks.size.Needs as need
 
 pub returns : need.returns

@@ -1,5 +1,5 @@
 use native.Mathlib.Omega.{arith}
-use Rattle.registers.proofs.WrittenSplices.{counts-none, counts-more}
+use Rattle.registers.proofs.WrittenParts.{counts-none, counts-more}
 use Rattle.registers.proofs.writing.parts.put_counts.Needs as need
 
 pub loop-kind-holds : need.loop-kind-holds

@@ -1,5 +1,6 @@
 use mathlib.Core.Path.{_≡_}
-use Rattle.registers.specs.Splices.{spliced, count-words}
+use Rattle.registers.specs.Splices.{spliced}
+use Rattle.registers.specs.Parts.{count-words}
 use Rattle.registers.proofs.writing.parts.put_counts.Given as given
 
 abbrev pub Inv-loop-kind : given.InvT-loop-kind

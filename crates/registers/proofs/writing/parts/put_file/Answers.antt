@@ -1,5 +1,5 @@
 use native.Mathlib.Omega.{arith}
-use Rattle.registers.proofs.WrittenSplices.{file-length, file-put}
+use Rattle.registers.proofs.WrittenParts.{file-length, file-put}
 use Rattle.registers.proofs.WrittenFiles.{file-fits}
 use Rattle.registers.proofs.writing.parts.put_file.Needs as need
 
@@ -29,4 +29,5 @@ returns g c =
     let n = file-length (g .R·Register .meaning (c .args .register .now)) in
     record {
       size = omega arith;
-      words = file-put _ _ _ _ _ _ _ _ (c .kinds-kinds .ensures .answer) (c .put .ensures) (c .put-counts .ensures) (c .put-links-next .ensures .words) (c .put-links-next .ensures .next) (c .put-2 .ensures) }
+      words = file-put _ _ _ _ _ _ _ _ (c .kinds-kinds .ensures .answer) (c .put .ensures) (c .put-counts .ensures) (c .put-links-next .ensures .words) (c .put-links-next .ensures .next) (c .put-2 .ensures);
+    }

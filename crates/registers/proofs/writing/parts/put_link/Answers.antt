@@ -1,5 +1,5 @@
 use native.Mathlib.Omega.{arith}
-use Rattle.registers.proofs.WrittenSplices.{row-length, link-put}
+use Rattle.registers.proofs.WrittenParts.{row-length, link-put}
 use Rattle.registers.proofs.WrittenFiles.{ends-fit, leads-fit}
 use Rattle.registers.proofs.writing.parts.put_link.Needs as need
 
@@ -22,4 +22,5 @@ returns g c =
     let n = row-length m (c .args .link) (c .in-Some .from) (c .in-Some .to) (c .in-Some .ensures tt) in
     record {
       next = omega arith;
-      words = link-put m (c .args .link) (c .args .at) (c .in-Some .from) (c .in-Some .to) _ _ _ _ (omega arith) (c .in-Some .ensures tt) (c .count-n .ensures) (c .put .ensures) (c .put-records .ensures) }
+      words = link-put m (c .args .link) (c .args .at) (c .in-Some .from) (c .in-Some .to) _ _ _ _ (omega arith) (c .in-Some .ensures tt) (c .count-n .ensures) (c .put .ensures) (c .put-records .ensures);
+    }

@@ -1,7 +1,7 @@
 use mathlib.Core.Path.{ap}
 use lib.ListN.{length}
 use native.Mathlib.Omega.{arith}
-use Rattle.registers.proofs.WrittenSplices.{links-none, links-start, links-length, links-more, links-room}
+use Rattle.registers.proofs.WrittenParts.{links-none, links-start, links-length, links-more, links-room}
 use Rattle.registers.proofs.writing.parts.put_links.Needs as need
 
 pub loop-link-holds : need.loop-link-holds

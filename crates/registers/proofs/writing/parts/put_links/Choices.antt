@@ -1,7 +1,8 @@
 use mathlib.Core.Path.{_≡_}
 use Prim.Native.Nat.{_+_}
 use lib.ListN.{length}
-use Rattle.registers.specs.Splices.{spliced, links-words}
+use Rattle.registers.specs.Splices.{spliced}
+use Rattle.registers.specs.Parts.{links-words}
 use Rattle.registers.proofs.writing.parts.put_links.Given as given
 
 abbrev pub Inv-loop-link : given.InvT-loop-link

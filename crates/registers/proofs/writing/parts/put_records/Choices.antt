@@ -1,5 +1,6 @@
 use mathlib.Core.Path.{_≡_}
-use Rattle.registers.specs.Splices.{spliced, record-words}
+use Rattle.registers.specs.Splices.{spliced}
+use Rattle.registers.specs.Parts.{record-words}
 use Rattle.registers.proofs.writing.parts.put_records.Given as given
 
 abbrev pub Inv-loop-r : given.InvT-loop-r
