@@ -80,7 +80,7 @@ write-refused (Ok ws) out after x room e =
 write-refused (Err y) out after x room e = sym (ap (λ p. giving [] (p .0)) e)
 
 done-by : (ws out : List ℕ) (b : Bool) (n : ℕ) → in-room b ws out .0 ≡ Ok n
-  → (n ≡ length ws) × (b ≡ true) × (cond b (Ok ws) (Err Memory) ≡ Ok (take n (in-room b ws out .1)))
+    → (n ≡ length ws) × (b ≡ true) × (cond b (Ok ws) (Err Memory) ≡ Ok (take n (in-room b ws out .1)))
 done-by ws out true n e = let m : n ≡ length ws = cc in (m, refl, ap Ok (sym (take-at ws (drop (length ws) out) n (sym m))))
 done-by ws out false n e = absurd (apart (sym e))
 
