@@ -1,4 +1,4 @@
--- Facts about slots, living ends and walks. Assumes nothing.
+-- Facts about slots, living ends and walks.
 use mathlib.Core.Path.{_≡_, refl, sym, ap, subst, _∙_}
 use mathlib.Core.List.{List, [], _∷_, _++_}
 use mathlib.Core.Bool.{Bool, true, false, cond, _&&_}

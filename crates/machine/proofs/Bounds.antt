@@ -1,4 +1,4 @@
--- The numbers given keep within the capacity, and the finished counts with them. Assumes nothing.
+-- The numbers given keep within the capacity, and the finished counts with them.
 use mathlib.Core.Path.{_≡_, refl, sym, ap, subst, _∙_}
 use mathlib.Core.List.{List, [], _∷_}
 use mathlib.Core.Bool.{Bool, true, false, cond, _&&_}

@@ -1,4 +1,4 @@
--- Nothing but the calls looks at the capacity. Assumes nothing.
+-- Nothing but the calls looks at the capacity.
 use mathlib.Core.Path.{_≡_, refl, sym, ap, subst, _∙_}
 use mathlib.Core.List.{List, [], _∷_}
 use Prim.Native.Nat.{ℕ, _<_}

@@ -1,4 +1,4 @@
--- Predicates closed under a table, and the single reading that they give. Assumes nothing.
+-- Predicates closed under a table, and the single reading that they give.
 use mathlib.Core.Path.{_≡_, refl, sym, ap, subst, _∙_}
 use mathlib.Core.Bool.{Bool, true}
 use Prim.Native.Nat.{ℕ, _<_}

@@ -1,4 +1,4 @@
--- The waiting list has room. Assumes nothing.
+-- The waiting list has room.
 use mathlib.Core.Path.{_≡_, refl, sym, ap, subst, _∙_}
 use mathlib.Core.List.{List, [], _∷_, _++_}
 use mathlib.Core.Bool.{Bool, true, false, cond}

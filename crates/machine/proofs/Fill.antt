@@ -1,4 +1,4 @@
--- Filling a slot, and new entries. Assumes nothing.
+-- Filling a slot, and new entries.
 use mathlib.Core.Path.{_≡_, refl, sym, ap, subst, _∙_}
 use mathlib.Core.Bool.{Bool, true, false, cond}
 use mathlib.Core.Logic.{_⊎_, inl, inr}

@@ -1,4 +1,4 @@
--- A table where a step finds nothing to do is complete. Assumes nothing.
+-- A table where a step finds nothing to do is complete.
 use mathlib.Core.Path.{_≡_, refl, sym, ap, subst, _∙_}
 use mathlib.Core.List.{List, [], _∷_}
 use mathlib.Core.Bool.{Bool, true, false, cond, not, _&&_}
@@ -18,7 +18,7 @@ use Rattle.machine.specs.Calls.{Op, land, define, check-rule, check-link, sett
 use Rattle.machine.specs.Readings.{Accepted, Joins}
 use Rattle.machine.specs.Sound.{Mem, In-use, Sound, Kinds, content-kind}
 use Rattle.machine.specs.Shift.{or-else, lowest, acts, only-if, link-next, rule-next, land-next, define-next, next, calls}
-use Rattle.machine.specs.Complete.{Complete, Complete-when-done, Keeps, Complete-keeps}
+use Rattle.machine.specs.Complete.{Complete, Complete-when-done, Keeps}
 use Rattle.machine.proofs.Wide.{Good}
 use Rattle.machine.proofs.Fill.{some-none}
 use Rattle.machine.proofs.Runs.{none-waits, calls-good, calls-kinds, start-good, start-kinds}
@@ -172,7 +172,7 @@ walk-none : (h : Slot → Option ℕ) (x : ℕ) → walk h x [] ≡ ended x
 unfolding walk
 walk-none h x = refl
 
-pub complete-keeps : Complete-keeps
+pub complete-keeps : (L : Loaded) (s : State) → Complete L s → Keeps L s
 complete-keeps L s d = record {
   rules = λ e i he live hi ke. sides-closed (walk (s .held) e (L .left i)) (walk (s .held) e (L .right i)) (d .rules-closed e i he live hi ke);
   steps = λ i r hi hr x y hx hy.

@@ -1,4 +1,4 @@
--- What is held stays held, up to living ends: merging, filling, and one step after another. Assumes nothing.
+-- What is held stays held, up to living ends: merging, filling, and one step after another.
 use mathlib.Core.Path.{_≡_, refl, sym, ap, _∙_}
 use mathlib.Core.Logic.{inl, inr}
 use Prim.Native.Nat.{ℕ, _≤_, _<_}

@@ -1,4 +1,4 @@
--- Nothing that was filled is ever lost. Assumes nothing.
+-- Nothing that was filled is ever lost.
 use mathlib.Core.Path.{_≡_, refl, sym, ap, _∙_}
 use mathlib.Core.List.{List, [], _∷_}
 use mathlib.Core.Bool.{Bool, true, false, cond}

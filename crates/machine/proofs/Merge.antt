@@ -1,4 +1,4 @@
--- Merging: readings stay, and what is reached stays reached. Assumes nothing.
+-- Merging: readings stay, and what is reached stays reached.
 use mathlib.Core.Path.{_≡_, refl, sym, ap, subst, _∙_}
 use mathlib.Core.List.{List, [], _∷_, _++_}
 use mathlib.Core.Bool.{Bool, true, false, cond}

@@ -1,4 +1,4 @@
--- The sequence has each living entry once. Assumes nothing.
+-- The sequence has each living entry once.
 use mathlib.Core.Path.{_≡_, refl, sym, ap, subst, _∙_}
 use mathlib.Core.List.{List, [], _∷_, _++_}
 use mathlib.Core.Bool.{Bool, true, false, cond, _||_}

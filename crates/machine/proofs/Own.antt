@@ -1,4 +1,4 @@
--- A complete table is a receiver, with its landings as a placing; it reads itself by the living ends. Assumes nothing.
+-- A complete table is a receiver, with its landings as a placing; it reads itself by the living ends.
 use mathlib.Core.Path.{_≡_, refl, sym, ap, subst, _∙_}
 use mathlib.Core.List.{List, [], _∷_}
 use mathlib.Core.Bool.{Bool, true, false, _&&_}

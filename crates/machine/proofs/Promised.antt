@@ -19,7 +19,7 @@ use Rattle.machine.specs.Shift.{calls}
 use Rattle.machine.specs.Complete.{Complete}
 use Rattle.machine.specs.Finish.{finish-words, finish-fault, put-words}
 use Rattle.machine.specs.Promise.{Finishes, Promise}
-use Rattle.machine.proofs.Runs.{invariance-of-calls}
+use Rattle.machine.proofs.Runs.{one-reading-of-calls}
 use Rattle.machine.proofs.Finished.{complete-keeps}
 use Rattle.machine.proofs.Written.{one-finish, finish-accepts}
 use Rattle.machine.proofs.Loads.{accepted, taken-from, same-load}
@@ -43,7 +43,7 @@ promise work ws m L e cs =
   let done = λ (vs : List ℕ) (f : Finishes L (calls L cs start) vs). finish-accepts L acc cs .0 (finishes-told L (calls L cs start) vs f .0) in
   record {
     source = taken-from work ws m L e;
-    one-reading = invariance-of-calls L acc cs;
+    one-reading = one-reading-of-calls L acc cs;
     finished = λ vs f. (let c = done vs f in (record { landings = c .landed; cells = c .defined }, complete-keeps L (calls L cs start) c));
     numbered = λ vs f. finishes-told L (calls L cs start) vs f .1;
     same-words = λ work′ K d ds us vs f g.

@@ -1,4 +1,4 @@
--- The number of the living, and that the waiting list has room after a merge. Assumes nothing.
+-- The number of the living, and that the waiting list has room after a merge.
 use mathlib.Core.Path.{_≡_, refl, sym, ap, subst, _∙_}
 use mathlib.Core.List.{List, [], _∷_, _++_}
 use mathlib.Core.Bool.{Bool, true, false, cond}

@@ -1,4 +1,4 @@
--- The finished register is a receiver, its landings a placing, and it is universal. Assumes nothing.
+-- The finished register is a receiver, its landings a placing, and it is universal.
 use mathlib.Core.Path.{_≡_, refl, sym, ap, subst, _∙_}
 use mathlib.Core.List.{List, [], _∷_}
 use Prim.Native.Nat.{ℕ, _<_}

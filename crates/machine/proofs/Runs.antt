@@ -1,4 +1,4 @@
--- Every list of calls keeps a table good. Assumes nothing.
+-- Every list of calls keeps a table good.
 use mathlib.Core.Path.{_≡_, refl, sym, ap, subst, _∙_}
 use mathlib.Core.List.{List, [], _∷_}
 use mathlib.Core.Bool.{Bool, true, false, cond, _&&_}
@@ -16,10 +16,10 @@ use Rattle.machine.specs.State.{Slot, cell, landing, State, start, born, fille
 use Rattle.machine.specs.Checking.{effect, rule-effect, link-effect}
 use Rattle.machine.specs.Settling.{settled}
 use Rattle.machine.specs.Sweeping.{swept}
-use Rattle.machine.specs.Calls.{land-fault, define-fault, rule-fault, link-fault, settle-fault, sweep-fault, unless, Op, land, define, check-rule, check-link, settle, sweep, apply, run}
-use Rattle.machine.specs.Readings.{Accepted, Invariance}
+use Rattle.machine.specs.Calls.{land-fault, define-fault, rule-fault, link-fault, settle-fault, sweep-fault, unless, Op, land, define, check-rule, check-link, settle, sweep, apply}
+use Rattle.machine.specs.Readings.{Accepted, One-reading}
 use Rattle.machine.specs.Sound.{Mem, In-use, Owner, Sound, Reach, Kinds}
-use Rattle.machine.specs.Shift.{Todo, does, ends, carry-out, plan, next, step, Call, plain, stepping, call, calls, Invariance-of-calls, All-reached, All-kinds}
+use Rattle.machine.specs.Shift.{Todo, does, ends, carry-out, plan, next, step, Call, plain, stepping, call, calls, All-sound, All-reached, All-kinds}
 use Rattle.machine.proofs.Wide.{Receiver, Placing, Reading, Good}
 use Rattle.machine.proofs.Closed.{one-reading}
 use Rattle.machine.proofs.Check.{rule-good, link-good, land-good, define-good}
@@ -106,14 +106,6 @@ start-good L = record {
   reached = λ e h. absurd (omega (arith, h))
 }
 
-pub run-good : (L : Loaded) → Accepted L → (os : List Op) (s : State) → Good L s → Good L (run L os s)
-unfolding run
-run-good L acc [] s g = g
-run-good L acc (o ∷ os) s g = run-good L acc os (apply L o s) (apply-good L acc o s g)
-
-pub invariance : Invariance
-invariance L acc os = one-reading L (run L os start) (run-good L acc os start (start-good L))
-
 todo-good : (L : Loaded) → Accepted L → (s : State) (budget done : ℕ) → Good L s → (t : Todo) → Good L (carry-out L s budget done t .state)
 todo-good L acc s budget done g (does o) = apply-good L acc o s g
 todo-good L acc s budget done g (ends e) = g
@@ -128,8 +120,11 @@ unfolding calls
 calls-good L acc [] s g = g
 calls-good L acc (c ∷ cs) s g = calls-good L acc cs (call L c s) (call-good L acc c s g)
 
-pub invariance-of-calls : Invariance-of-calls
-invariance-of-calls L acc cs = one-reading L (calls L cs start) (calls-good L acc cs start (start-good L))
+pub one-reading-of-calls : (L : Loaded) → Accepted L → (cs : List Call) → One-reading L (calls L cs start)
+one-reading-of-calls L acc cs = one-reading L (calls L cs start) (calls-good L acc cs start (start-good L))
+
+pub all-sound : All-sound
+all-sound L acc cs = calls-good L acc cs start (start-good L) .sound
 
 pub all-reached : All-reached
 all-reached L acc cs = calls-good L acc cs start (start-good L) .reached

@@ -1,4 +1,4 @@
--- Settling keeps a table good. Assumes nothing.
+-- Settling keeps a table good.
 use mathlib.Core.Path.{_≡_, refl, sym, ap, subst, _∙_}
 use mathlib.Core.List.{List, [], _∷_}
 use mathlib.Core.Bool.{Bool, true, false, cond}

@@ -1,4 +1,4 @@
--- Two complete tables of one load are the same up to the entries' numbers. Assumes nothing.
+-- Two complete tables of one load are the same up to the entries' numbers.
 use mathlib.Core.Path.{_≡_, refl, sym, ap, subst, _∙_}
 use mathlib.Core.List.{List, [], _∷_, _++_, map}
 use mathlib.Core.Bool.{Bool, true, false, cond, _||_}

@@ -1,4 +1,4 @@
--- Every call keeps the kinds. Assumes nothing.
+-- Every call keeps the kinds.
 use mathlib.Core.Path.{_≡_, refl, sym, ap, subst, _∙_}
 use mathlib.Core.List.{List, [], _∷_}
 use mathlib.Core.Bool.{Bool, true, false, cond}

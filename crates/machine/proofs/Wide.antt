@@ -1,4 +1,4 @@
--- Receivers whose records are any numbers, told by a test and not by a count: what every table keeps is shown over these. Assumes nothing.
+-- Receivers whose records are any numbers, told by a test and not by a count: what every table keeps is shown over these.
 use mathlib.Core.Path.{_≡_}
 use mathlib.Core.Bool.{Bool, true}
 use Prim.Native.Nat.{ℕ, _<_}

@@ -1,4 +1,4 @@
--- Two complete tables of one load are finished with the same words. Assumes nothing.
+-- Two complete tables of one load are finished with the same words.
 use mathlib.Core.Path.{_≡_, refl, sym, ap, _∙_}
 use mathlib.Core.List.{List, [], _∷_, map}
 use mathlib.Core.Bool.{Bool, true, false, cond}
@@ -21,7 +21,7 @@ use Rattle.machine.specs.Readings.{Accepted}
 use Rattle.machine.specs.Shift.{Call, calls, next}
 use Rattle.machine.specs.Complete.{Complete}
 use Rattle.machine.specs.Sequence.{sequence}
-use Rattle.machine.specs.Finish.{tally, before, first-or, entry-in, number, entry, count-of, lead-of, at-of, register-file, finish-words, with-capacity, One-finish, Alike, One-table, unfinished, Finish-accepts}
+use Rattle.machine.specs.Finish.{tally, before, first-or, entry-in, number, entry, count-of, lead-of, at-of, register-file, finish-words, with-capacity, Alike, One-table, unfinished, Finish-accepts}
 use Rattle.machine.proofs.Upto.{upto-same}
 use Rattle.machine.proofs.Numbering.{grown-fine}
 use Rattle.machine.proofs.Runs.{cond-some, calls-good, calls-kinds, start-good, start-kinds}
@@ -117,7 +117,10 @@ module _ (L : Loaded) (acc : Accepted L) (c : ℕ) (s z : State) (a : Whole L s)
 pub whole-calls : (L : Loaded) → Accepted L → (cs : List Call) → Complete L (calls L cs start) → Whole L (calls L cs start)
 whole-calls L acc cs d = record { good = calls-good L acc cs start (start-good L); kinds = calls-kinds L acc cs start (start-good L) (start-kinds L); complete = d }
 
-pub one-finish : One-finish
+-- two complete tables of one load, of any two capacities and after any two lists of calls, are finished with the same words
+pub one-finish : (L : Loaded) → Accepted L → (b c : ℕ) (cs ds : List Call) →
+  Complete (with-capacity b L) (calls (with-capacity b L) cs start) → Complete (with-capacity c L) (calls (with-capacity c L) ds start) →
+  finish-words (with-capacity b L) (calls (with-capacity b L) cs start) ≡ finish-words (with-capacity c L) (calls (with-capacity c L) ds start)
 one-finish L acc b c cs ds p q =
   let acb = accepted-at b L acc in
   sym (words-same (with-capacity b L) acb c (calls (with-capacity b L) cs start) (calls (with-capacity c L) ds start) (whole-calls (with-capacity b L) acb cs p) (whole-calls (with-capacity c L) (accepted-at c L acc) ds q))

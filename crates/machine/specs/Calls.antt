@@ -50,7 +50,3 @@ apply L (check-rule e i) s = unless (rule-fault L s e i) s (effect (rule-effect 
 apply L (check-link i r) s = unless (link-fault L s i r) s (effect (link-effect L s i r) s)
 apply L settle s = unless (settle-fault s) s (settled L s)
 apply L sweep s = unless (sweep-fault s) s (swept s)
-
-unfoldable pub run : Loaded → List Op → State → State
-run L [] s = s
-run L (o ∷ os) s = run L os (apply L o s)

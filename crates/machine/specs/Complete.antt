@@ -1,4 +1,4 @@
--- What a complete table is. Assumes nothing.
+-- What a complete table is.
 use mathlib.Core.Path.{_≡_}
 use mathlib.Core.List.{List, [], _∷_}
 use Prim.Native.Nat.{ℕ, _<_}
@@ -27,6 +27,3 @@ Complete-when-done = (L : Loaded) → Accepted L → (cs : List Call) → (next 
 pub record Keeps (L : Loaded) (s : State) : Type 0 where
   pub rules : (e i : ℕ) → e < s .given → s .forward e ≡ e → i < L .rules → s .kind e ≡ L .first i → (a : ℕ) × (walk (s .held) e (L .left i) ≡ ended a) × (walk (s .held) e (L .right i) ≡ ended a)
   pub steps : (i r : ℕ) → i < L .source-links → r < L .count (L .source-from i) → (x y : ℕ) → s .held (landing (L .source-from i) r) ≡ Some x → s .held (landing (L .source-to i) (L .lead i r)) ≡ Some y → walk (s .held) x (L .link-map i) ≡ ended y
-
-abbrev pub Complete-keeps : Type 0
-Complete-keeps = (L : Loaded) (s : State) → Complete L s → Keeps L s

@@ -1,4 +1,4 @@
--- What finish writes. Assumes nothing.
+-- What finish writes.
 use mathlib.Core.Path.{_≡_}
 use mathlib.Core.List.{List, [], _∷_, _++_}
 use mathlib.Core.Bool.{cond}
@@ -79,13 +79,7 @@ with-capacity c L = record {
   count = L .count; lead = L .lead; capacity = c
 }
 
--- Two complete tables of one load, of any two capacities and after any two lists of calls, are finished with the same words.
-abbrev pub One-finish : Type 0
-One-finish = (L : Loaded) → Accepted L → (b c : ℕ) (cs ds : List Call) →
-  Complete (with-capacity b L) (calls (with-capacity b L) cs start) → Complete (with-capacity c L) (calls (with-capacity c L) ds start) →
-  finish-words (with-capacity b L) (calls (with-capacity b L) cs start) ≡ finish-words (with-capacity c L) (calls (with-capacity c L) ds start)
-
--- More than that: the living entries of one stand for those of the other, one to one, with their kinds, landings and cells.
+-- Two tables are alike: the living entries of one stand for those of the other, one to one, with their kinds, landings and cells.
 pub record Alike (s z : State) (f g : ℕ → ℕ) : Type 0 where
   pub living : (e : ℕ) → e < s .given → s .forward e ≡ e → (f e < z .given) × (z .forward (f e) ≡ f e) × (z .kind (f e) ≡ s .kind e) × (g (f e) ≡ e)
   pub landings : (k r : ℕ) → z .held (landing k r) ≡ renamed f (s .held (landing k r))

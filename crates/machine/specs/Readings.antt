@@ -1,12 +1,11 @@
--- Receiving registers, placings, readings. Assumes nothing.
+-- Receiving registers, placings, readings.
 use mathlib.Core.Path.{_≡_}
 use mathlib.Core.List.{List, [], _∷_}
 use Prim.Native.Nat.{ℕ, _<_}
 use Rattle.std.specs.declared.option.Option.{Option}
 use Rattle.std.specs.declared.option.Option.the-variants.{Some, None}
 use Rattle.machine.specs.Loaded.{Loaded}
-use Rattle.machine.specs.State.{Slot, cell, landing, State, start}
-use Rattle.machine.specs.Calls.{Op, run}
+use Rattle.machine.specs.State.{Slot, cell, landing, State}
 
 abbrev pub along : (ℕ → ℕ → ℕ) → ℕ → List ℕ → ℕ
 along lead x [] = x
@@ -63,6 +62,3 @@ One-reading L s = (R : Receiver L) (P : Placing L R) → record {
   some : (ρ : ℕ → ℕ) × Reading L R P s ρ;
   only : (ρ σ : ℕ → ℕ) → Reading L R P s ρ → Reading L R P s σ → (e : ℕ) → e < s .given → ρ e ≡ σ e
 }
-
-abbrev pub Invariance : Type 0
-Invariance = (L : Loaded) → Accepted L → (os : List Op) → One-reading L (run L os start)

@@ -1,4 +1,4 @@
--- A refused call changes nothing. Assumes nothing.
+-- A refused call changes nothing.
 use mathlib.Core.Path.{_≡_}
 use mathlib.Core.List.{List}
 use Prim.Native.Nat.{ℕ}

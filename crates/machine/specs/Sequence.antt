@@ -1,4 +1,4 @@
--- The sequence in which finish meets the entries of a table. Assumes nothing.
+-- The sequence in which finish meets the entries of a table.
 use mathlib.Core.Path.{_≡_}
 use mathlib.Core.List.{List, [], _∷_, _++_}
 use mathlib.Core.Bool.{Bool, true, false, cond, _||_}

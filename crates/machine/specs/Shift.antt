@@ -1,4 +1,4 @@
--- Shifts: what a step does, and runs with steps among the calls. Assumes nothing.
+-- Shifts: what a step does, and runs with steps among the calls.
 use mathlib.Core.Path.{_≡_}
 use mathlib.Core.List.{List, [], _∷_}
 use mathlib.Core.Bool.{Bool, true, false, cond, not, _&&_}
@@ -12,8 +12,8 @@ use Rattle.machine.specs.State.{Slot, cell, landing, State, start, waits, fill
 use Rattle.machine.specs.Checking.{Effect, closed, merges, fills, stuck, rule-effect, link-effect}
 use Rattle.machine.specs.Sweeping.{rank}
 use Rattle.machine.specs.Calls.{Op, land, define, check-rule, check-link, settle, sweep, apply}
-use Rattle.machine.specs.Readings.{Accepted, One-reading}
-use Rattle.machine.specs.Sound.{Reach, Kinds}
+use Rattle.machine.specs.Readings.{Accepted}
+use Rattle.machine.specs.Sound.{Sound, Reach, Kinds}
 
 abbrev pub or-else : Option Op → Option Op → Option Op
 or-else None b = b
@@ -110,8 +110,9 @@ unfoldable pub calls : Loaded → List Call → State → State
 calls L [] s = s
 calls L (c ∷ cs) s = calls L cs (call L c s)
 
-abbrev pub Invariance-of-calls : Type 0
-Invariance-of-calls = (L : Loaded) → Accepted L → (cs : List Call) → One-reading L (calls L cs start)
+-- after every list of calls the table is sound
+abbrev pub All-sound : Type 0
+All-sound = (L : Loaded) → Accepted L → (cs : List Call) → Sound L (calls L cs start)
 
 -- after every list of calls every numbered entry is reached
 abbrev pub All-reached : Type 0

@@ -1,4 +1,4 @@
--- What every table keeps, and which entries are reached. Assumes nothing.
+-- What every table keeps, and which entries are reached.
 use mathlib.Core.Path.{_≡_}
 use mathlib.Core.List.{List, [], _∷_}
 use mathlib.Core.Logic.{_⊎_}

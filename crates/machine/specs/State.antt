@@ -42,7 +42,7 @@ on (Some w) none some = some w
 abbrev pub born : ℕ → Slot → State → State
 born k t s = record { given = suc (s .given); kind = λ x. cond (eqb x (s .given)) k (s .kind x); forward = s .forward; held = put t (Some (s .given)) (s .held); waiting = s .waiting }
 
--- The refusals, by number.
+-- What a slot holds, whether any waits, and whether an entry lives.
 abbrev pub filled : Option ℕ → Bool
 filled None = false
 filled (Some w) = true

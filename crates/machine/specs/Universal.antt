@@ -1,4 +1,4 @@
--- The finished register is the universal receiver. Assumes nothing.
+-- The finished register is the universal receiver.
 use mathlib.Core.Path.{_≡_}
 use mathlib.Core.List.{List}
 use Prim.Native.Nat.{ℕ, _<_}

@@ -1,7 +1,7 @@
 // The machine of a table: its definitions stand in specs/, and its laws here, each as the contract of a function that does nothing.
 ghost use Rattle.machine.specs.Promise.{Loads-accepted, Promise};
 ghost use Rattle.machine.specs.ReadBack.{Finish-reads-back};
-ghost use Rattle.machine.specs.Shift.{All-reached, All-room, All-within, All-kinds};
+ghost use Rattle.machine.specs.Shift.{All-sound, All-reached, All-room, All-within, All-kinds};
 ghost use Rattle.machine.specs.Complete.{Complete-when-done};
 ghost use Rattle.machine.specs.Finish.{Finish-accepts, Finish-bounds, One-table};
 ghost use Rattle.machine.specs.Sequence.{All-numbered};
@@ -29,6 +29,13 @@ pub fn promise_stands() -> u8
 // What finish writes is read back as the register that the table shows.
 pub fn reads_back_stands() -> u8
     ensures { λ _. ⌜ Finish-reads-back ⌝ }
+{
+    0
+}
+
+// Forwards lead down, who waits is dead, and what is held is living or waits.
+pub fn sound_stands() -> u8
+    ensures { λ _. ⌜ All-sound ⌝ }
 {
     0
 }
