@@ -20,7 +20,7 @@ fn is_crowded<R: Register>(register: &R) -> bool
 }
 
 // Whether a register passes the limits of a register file.
-pub fn is_large<R: Register>(register: &R) -> bool
+pub(crate) fn is_large<R: Register>(register: &R) -> bool
     ensures answer { λ r. ⌜ r ≡ large (meaning (now (register .entry))) ⌝ }
     ensures lawful { λ _. ⌜ Lawful (meaning (now (register .entry))) ⌝ }
 {
@@ -62,7 +62,7 @@ fn is_broken<R: Register>(register: &R, link: u32) -> bool
 }
 
 // The lowest link that cannot be written.
-pub fn lowest_broken<R: Register>(register: &R) -> Option<u32>
+pub(crate) fn lowest_broken<R: Register>(register: &R) -> Option<u32>
     ensures { λ r. ⌜ r ≡ lowest (broken (meaning (now (register .entry)))) (meaning (now (register .entry)) .links) ⌝ }
 {
     let links = register.links();
@@ -99,7 +99,7 @@ fn links_size<R: Register>(register: &R) -> usize
 }
 
 // How many words a register takes.
-pub fn size<R: Register>(register: &R) -> usize
+pub(crate) fn size<R: Register>(register: &R) -> usize
     requires { ⌜ meaning (now register) .links ≤ 64 ⌝ }
     ensures { λ r. ⌜ r ≡ length (file-words (meaning (now (register .entry)))) ⌝ }
 {

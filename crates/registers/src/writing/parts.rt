@@ -70,7 +70,7 @@ fn put_links<R: Register>(register: &R, out: &mut [u32], at: usize) -> usize
 }
 
 // Puts the whole file at the front; tells how many words.
-pub fn put_file<R: Register>(register: &R, out: &mut [u32]) -> usize
+pub(crate) fn put_file<R: Register>(register: &R, out: &mut [u32]) -> usize
     requires { ⌜ Writable (meaning (now register)) ⌝ ∗ ⌜ length (file-words (meaning (now register))) ≤ length (now out) ⌝ }
     ensures size { λ r. ⌜ r ≡ length (file-words (meaning (now (register .entry)))) ⌝ }
     ensures words { λ _. ⌜ now (out .exit) ≡ file-words (meaning (now (register .entry))) ++ drop (length (file-words (meaning (now (register .entry))))) (now (out .entry)) ⌝ }
