@@ -58,9 +58,9 @@ module _ (f : ℕ → ℕ) where
     unfolding chase
     chase-lives zero x h = omega (arith, lower x)
     chase-lives (suc n) x h = elim (cases-eq (f x) x) [
-        inl e ↦ (let q : chase f n (f x) ≡ f x = chase-fix n (f x) (cc) in cc)
+      | inl e ↦ (let q : chase f n (f x) ≡ f x = chase-fix n (f x) (cc) in cc)
       | inr e ↦ chase-lives n (f x) (omega (arith, lower x))
-      ]
+    ]
 
     pub chase-lower : (n x : ℕ) → chase f n x ≤ x
     unfolding chase
@@ -71,9 +71,9 @@ module _ (f : ℕ → ℕ) where
     unfolding chase
     chase-enough zero x h = let e : x ≡ 0 = omega arith in cc
     chase-enough (suc n) x h = elim (cases-eq x (suc n)) [
-        inl e ↦ rw e refl
+      | inl e ↦ rw e refl
       | inr e ↦ chase-out n x ∙ (chase-lives n x (omega arith) ∙ chase-enough n x (omega arith))
-      ]
+    ]
 
     -- the living end of the forward is the living end
     pub end-forward : (x : ℕ) → chase f (f x) (f x) ≡ chase f x x

@@ -94,8 +94,8 @@ tally-short : (kind : ℕ → ℕ) (k : ℕ) (xs : List ℕ) → tally kind k xs
 unfolding tally
 tally-short kind k [] = omega arith
 tally-short kind k (x ∷ xs) =
-  let r = tally-short kind k xs in
-  elim (cases-eq (kind x) k) [ inl e ↦ (let q = tally-yes kind k x xs e in omega (arith, r, q)) | inr e ↦ (let q = tally-no kind k x xs e in omega (arith, r, q)) ]
+    let r = tally-short kind k xs in
+    elim (cases-eq (kind x) k) [ inl e ↦ (let q = tally-yes kind k x xs e in omega (arith, r, q)) | inr e ↦ (let q = tally-no kind k x xs e in omega (arith, r, q)) ]
 
 kind-known : (L : Loaded) → Accepted L → (s : State) → Good L s → Kinds L s → (e : ℕ) → e < s .given → s .kind e < L .target-kinds
 kind-known L acc s g ks e h = closed-all known (g .reached e h)
@@ -103,26 +103,27 @@ kind-known L acc s g ks e h = closed-all known (g .reached e h)
     fit : (t : Slot) (w : ℕ) → s .held t ≡ Some w → Before (λ e. s .kind e < L .target-kinds) t → s .kind w < L .target-kinds
     fit (cell d l) w c b = subst (λ k. k < L .target-kinds) (sym (ks .fit (cell d l) w c .0)) (acc .to-known l (g .sound .used (cell d l) w c .1 .1))
     fit (landing k r) w c b = subst (λ k. k < L .target-kinds) (sym (ks .fit (landing k r) w c .0)) (acc .map-known k (g .sound .used (landing k r) w c .1 .0))
+
     known : Closed (λ e. s .kind e < L .target-kinds) s
     known = record { fits = fit; goes = λ x q. subst (λ k. k < L .target-kinds) (sym (ks .kept x)) q; comes = λ x q. subst (λ k. k < L .target-kinds) (ks .kept x) q }
 
 pub finish-bounds : Finish-bounds
 finish-bounds L acc cs quiet =
-  let s = calls L cs start in
-  let g = calls-good L acc cs start (start-good L) in
-  let ks = calls-kinds L acc cs start (start-good L) (start-kinds L) in
-  let fine = grown-fine L (calls L cs start) g quiet (calls L cs start .given) in
-  let short = fine-short (calls L cs start .given) _ (sequence L (calls L cs start)) (λ y h. h .0) fine in
-  record {
-    few = λ k. (let a = tally-short (calls L cs start .kind) k (sequence L (calls L cs start)) in let b = all-within L acc cs in omega (arith, a, b, short));
-    other = λ k h. elim (cases-eq (count-of L (calls L cs start) k) 0) [
-        inl e ↦ e
-      | inr e ↦ absurd (
-          let pos : 0 < count-of L (calls L cs start) k = omega (arith, e) in
-          let x = entry-in (calls L cs start .kind) k (sequence L (calls L cs start)) 0 in
-          let live = entry-each (Living (calls L cs start)) (calls L cs start .kind) k (sequence L (calls L cs start)) 0 (fine-each (Living (calls L cs start)) (sequence L (calls L cs start)) fine) pos in
-          let same = entry-kind (calls L cs start .kind) k (sequence L (calls L cs start)) 0 pos in
-          let known = kind-known L acc (calls L cs start) g ks (entry-in (calls L cs start .kind) k (sequence L (calls L cs start)) 0) (live .0) in
-          omega (arith, same, known, h))
-      ]
-  }
+    let s = calls L cs start in
+    let g = calls-good L acc cs start (start-good L) in
+    let ks = calls-kinds L acc cs start (start-good L) (start-kinds L) in
+    let fine = grown-fine L (calls L cs start) g quiet (calls L cs start .given) in
+    let short = fine-short (calls L cs start .given) _ (sequence L (calls L cs start)) (λ y h. h .0) fine in
+    record {
+      few = λ k. (let a = tally-short (calls L cs start .kind) k (sequence L (calls L cs start)) in let b = all-within L acc cs in omega (arith, a, b, short));
+      other = λ k h. elim (cases-eq (count-of L (calls L cs start) k) 0) [
+        | inl e ↦ e
+        | inr e ↦ absurd (
+            let pos : 0 < count-of L (calls L cs start) k = omega (arith, e) in
+            let x = entry-in (calls L cs start .kind) k (sequence L (calls L cs start)) 0 in
+            let live = entry-each (Living (calls L cs start)) (calls L cs start .kind) k (sequence L (calls L cs start)) 0 (fine-each (Living (calls L cs start)) (sequence L (calls L cs start)) fine) pos in
+            let same = entry-kind (calls L cs start .kind) k (sequence L (calls L cs start)) 0 pos in
+            let known = kind-known L acc (calls L cs start) g ks (entry-in (calls L cs start .kind) k (sequence L (calls L cs start)) 0) (live .0) in
+            omega (arith, same, known, h))
+      ];
+    }

@@ -29,12 +29,17 @@ module _ (c : ℕ) (L : Loaded) where
 
   pub accepted-at : Accepted L → Accepted (with-capacity c L)
   accepted-at acc = record {
-    from-known = acc .from-known; to-known = acc .to-known; map-known = acc .map-known; from-in = acc .from-in; to-in = acc .to-in; lead-in = acc .lead-in;
+    from-known = acc .from-known;
+    to-known = acc .to-known;
+    map-known = acc .map-known;
+    from-in = acc .from-in;
+    to-in = acc .to-in;
+    lead-in = acc .lead-in;
     left-in = λ i h. joins-at (L .first i) (L .left i) (acc .left-in i h);
     right-in = λ i h. joins-at (L .first i) (L .right i) (acc .right-in i h);
     one-end = λ i h. end-at (L .first i) (L .left i) ∙ (acc .one-end i h ∙ sym (end-at (L .first i) (L .right i)));
     map-in = λ i h. joins-at (L .kind-map (L .source-from i)) (L .link-map i) (acc .map-in i h);
-    map-end = λ i h. end-at (L .kind-map (L .source-from i)) (L .link-map i) ∙ acc .map-end i h
+    map-end = λ i h. end-at (L .kind-map (L .source-from i)) (L .link-map i) ∙ acc .map-end i h;
   }
 
   module _ (s : State) where
@@ -58,10 +63,10 @@ module _ (c : ℕ) (L : Loaded) where
 
     pub whole-of : Whole (with-capacity c L) s → Whole L s
     whole-of w =
-      let ok = w .good .sound in
-      let d = w .complete in
-      record {
-        good = record { sound = record { lower = ok .lower; fresh = ok .fresh; dead = ok .dead; used = used-of ok }; read = λ R P. read-of R P (w .good); reached = w .good .reached };
-        kinds = record { kept = w .kinds .kept; fit = fit-of (w .kinds) };
-        complete = record { quiet = d .quiet; landed = d .landed; defined = d .defined; links-closed = d .links-closed; rules-closed = d .rules-closed }
-      }
+        let ok = w .good .sound in
+        let d = w .complete in
+        record {
+          good = record { sound = record { lower = ok .lower; fresh = ok .fresh; dead = ok .dead; used = used-of ok }; read = λ R P. read-of R P (w .good); reached = w .good .reached };
+          kinds = record { kept = w .kinds .kept; fit = fit-of (w .kinds) };
+          complete = record { quiet = d .quiet; landed = d .landed; defined = d .defined; links-closed = d .links-closed; rules-closed = d .rules-closed };
+        }

@@ -32,14 +32,14 @@ pub merge-good : (L : Loaded) (s : State) → Good L s → (a b : ℕ) → a < s
 merge-good L s g a b ha hb same = record {
   sound = merge-sound L s (g .sound) a b ha hb;
   read = λ R P. let r = g .read R P in (r .0, merge-read L s (g .sound) a b ha hb R P (r .0) (r .1) (same R P (r .0) (r .1)));
-  reached = λ e h. closed-all (merge-closed L s (g .sound) a b ha hb (Reach (merge a b s)) (closed-reach (merge a b s))) (g .reached e (subst (λ n. e < n) (merge-given L s (g .sound) a b ha hb) h))
+  reached = λ e h. closed-all (merge-closed L s (g .sound) a b ha hb (Reach (merge a b s)) (closed-reach (merge a b s))) (g .reached e (subst (λ n. e < n) (merge-given L s (g .sound) a b ha hb) h));
 }
 
 pub fill-good : (L : Loaded) (s : State) → Good L s → (t : Slot) (a : ℕ) → s .held t ≡ None → In-use s a → Owner L s t → ((R : Receiver L) (P : Placing L R) (ρ : ℕ → ℕ) → Reading L R P s ρ → ρ a ≡ worth (R .lead) (P .at) ρ t) → Good L (hold t (Some a) s)
 fill-good L s g t a none ua ot same = record {
   sound = fill-sound L s t a (g .sound) ua ot;
   read = λ R P. let r = g .read R P in (r .0, fill-read L s t a R P (r .0) (r .1) (same R P (r .0) (r .1)));
-  reached = λ e h. closed-all (fill-closed L s t a none (Reach (hold t (Some a) s)) (closed-reach (hold t (Some a) s))) (g .reached e h)
+  reached = λ e h. closed-all (fill-closed L s t a none (Reach (hold t (Some a) s)) (closed-reach (hold t (Some a) s))) (g .reached e h);
 }
 
 -- where a walk comes to
@@ -64,13 +64,13 @@ module _ (L : Loaded) (s : State) (ok : Sound L s) where
   unfolding walk
   walk-valid [] e u b = u
   walk-valid (l ∷ ls) e u b = on-cases (Valid L s) (s .held (cell e l)) (stopped (cell e l) (length ls)) (λ w. walk (s .held) w ls)
-    (λ q. ((u, b .0), q))
-    (λ w q. walk-valid ls w (ok .used (cell e l) w q .0) (b .1))
+      (λ q. ((u, b .0), q))
+      (λ w q. walk-valid ls w (ok .used (cell e l) w q .0) (b .1))
 
   pub walk-in-valid : (ls : List ℕ) (t : Slot) → Owner L s t → Steps-below (L .links) ls → Valid L s (walk-in (s .held) t ls)
   walk-in-valid ls t o b = on-cases (Valid L s) (s .held t) (stopped t (length ls)) (λ w. walk (s .held) w ls)
-    (λ q. (o, q))
-    (λ w q. walk-valid ls w (ok .used t w q .0) b)
+      (λ q. (o, q))
+      (λ w q. walk-valid ls w (ok .used t w q .0) b)
 
 module _ (L : Loaded) (s : State) (R : Receiver L) (P : Placing L R) (ρ : ℕ → ℕ) (d : Reading L R P s ρ) where
   no-steps : (ls : List ℕ) (x : ℕ) → length ls ≡ 0 → x ≡ along (R .lead) x ls
@@ -81,13 +81,13 @@ module _ (L : Loaded) (s : State) (R : Receiver L) (P : Placing L R) (ρ : ℕ �
   unfolding walk
   walk-means [] e = refl
   walk-means (l ∷ ls) e = on-cases (Means (R .lead) (P .at) ρ (along (R .lead) (R .lead l (ρ e)) ls)) (s .held (cell e l)) (stopped (cell e l) (length ls)) (λ w. walk (s .held) w ls)
-    (λ q h. no-steps ls (R .lead l (ρ e)) h)
-    (λ w q. subst (λ x. Means (R .lead) (P .at) ρ (along (R .lead) x ls) (walk (s .held) w ls)) (d .agrees (cell e l) w q) (walk-means ls w))
+      (λ q h. no-steps ls (R .lead l (ρ e)) h)
+      (λ w q. subst (λ x. Means (R .lead) (P .at) ρ (along (R .lead) x ls) (walk (s .held) w ls)) (d .agrees (cell e l) w q) (walk-means ls w))
 
   pub walk-in-means : (ls : List ℕ) (t : Slot) → Means (R .lead) (P .at) ρ (along (R .lead) (worth (R .lead) (P .at) ρ t) ls) (walk-in (s .held) t ls)
   walk-in-means ls t = on-cases (Means (R .lead) (P .at) ρ (along (R .lead) (worth (R .lead) (P .at) ρ t) ls)) (s .held t) (stopped t (length ls)) (λ w. walk (s .held) w ls)
-    (λ q h. no-steps ls (worth (R .lead) (P .at) ρ t) h)
-    (λ w q. subst (λ x. Means (R .lead) (P .at) ρ (along (R .lead) x ls) (walk (s .held) w ls)) (d .agrees t w q) (walk-means ls w))
+      (λ q h. no-steps ls (worth (R .lead) (P .at) ρ t) h)
+      (λ w q. subst (λ x. Means (R .lead) (P .at) ρ (along (R .lead) x ls) (walk (s .held) w ls)) (d .agrees t w q) (walk-means ls w))
 
 -- in every reading the two walks come to one record
 abbrev pub Level : (L : Loaded) → State → Walked → Walked → Type 0
@@ -108,26 +108,30 @@ module _ (L : Loaded) (s : State) (g : Good L s) where
 
   pub rule-good : Accepted L → (e i : ℕ) → In-use s e → i < L .rules → s .kind e ≡ L .first i → Good L (effect (rule-effect L s e i) s)
   rule-good acc e i u hi k = sides-good (walk (s .held) e (L .left i)) (walk (s .held) e (L .right i))
-    (walk-valid L s (g .sound) (L .left i) e u (steps L (L .first i) (L .left i) (acc .left-in i hi)))
-    (walk-valid L s (g .sound) (L .right i) e u (steps L (L .first i) (L .right i) (acc .right-in i hi)))
-    (λ R P ρ d. (along (R .lead) (ρ e) (L .right i),
-      subst (λ m. Means (R .lead) (P .at) ρ m (walk (s .held) e (L .left i))) (R .keeps i (ρ e) hi (subst (λ j. R .has j (ρ e) ≡ true) k (d .counted e (u .below)))) (walk-means L s R P ρ d (L .left i) e),
-      walk-means L s R P ρ d (L .right i) e))
+      (walk-valid L s (g .sound) (L .left i) e u (steps L (L .first i) (L .left i) (acc .left-in i hi)))
+      (walk-valid L s (g .sound) (L .right i) e u (steps L (L .first i) (L .right i) (acc .right-in i hi)))
+      (λ R P ρ d. (
+        along (R .lead) (ρ e) (L .right i),
+        subst (λ m. Means (R .lead) (P .at) ρ m (walk (s .held) e (L .left i))) (R .keeps i (ρ e) hi (subst (λ j. R .has j (ρ e) ≡ true) k (d .counted e (u .below)))) (walk-means L s R P ρ d (L .left i) e),
+        walk-means L s R P ρ d (L .right i) e,
+      ))
 
   pub link-good : Accepted L → (i r : ℕ) → i < L .source-links → r < L .count (L .source-from i) → Good L (effect (link-effect L s i r) s)
   link-good acc i r hi hr =
-    let t : Slot = landing (L .source-to i) (L .lead i r) in
-    let f : Slot = landing (L .source-from i) r in
-    sides-good (walk-in (s .held) t []) (walk-in (s .held) f (L .link-map i))
-    (walk-in-valid L s (g .sound) [] t (acc .to-in i hi, acc .lead-in i r hi hr) tt)
-    (walk-in-valid L s (g .sound) (L .link-map i) f (acc .from-in i hi, hr) (steps L (L .kind-map (L .source-from i)) (L .link-map i) (acc .map-in i hi)))
-    (λ R P ρ d. (P .at (L .source-to i) (L .lead i r),
-      walk-in-means L s R P ρ d [] t,
-      subst (λ m. Means (R .lead) (P .at) ρ m (walk-in (s .held) f (L .link-map i))) (P .in-step i r hi hr) (walk-in-means L s R P ρ d (L .link-map i) f)))
+      let t : Slot = landing (L .source-to i) (L .lead i r) in
+      let f : Slot = landing (L .source-from i) r in
+      sides-good (walk-in (s .held) t []) (walk-in (s .held) f (L .link-map i))
+      (walk-in-valid L s (g .sound) [] t (acc .to-in i hi, acc .lead-in i r hi hr) tt)
+      (walk-in-valid L s (g .sound) (L .link-map i) f (acc .from-in i hi, hr) (steps L (L .kind-map (L .source-from i)) (L .link-map i) (acc .map-in i hi)))
+      (λ R P ρ d. (
+        P .at (L .source-to i) (L .lead i r),
+        walk-in-means L s R P ρ d [] t,
+        subst (λ m. Means (R .lead) (P .at) ρ m (walk-in (s .held) f (L .link-map i))) (P .in-step i r hi hr) (walk-in-means L s R P ρ d (L .link-map i) f),
+      ))
 
   pub land-good : (k r : ℕ) → k < L .source-kinds → r < L .count k → s .held (landing k r) ≡ None → Good L (born (L .kind-map k) (landing k r) s)
   land-good k r hk hr none = born-good L s (landing k r) (L .kind-map k) (g .sound) (hk, hr) none g (λ R P ρ d. P .counted k r hk hr)
 
   pub define-good : (e l : ℕ) → In-use s e → l < L .links → s .kind e ≡ L .from l → s .held (cell e l) ≡ None → Good L (born (L .to l) (cell e l) s)
   define-good e l u hl k none = born-good L s (cell e l) (L .to l) (g .sound) (u, hl) none g
-    (λ R P ρ d. R .inside l (ρ e) hl (subst (λ j. R .has j (ρ e) ≡ true) k (d .counted e (u .below))))
+      (λ R P ρ d. R .inside l (ρ e) hl (subst (λ j. R .has j (ρ e) ≡ true) k (d .counted e (u .below))))

@@ -63,7 +63,7 @@ module _ (L : Loaded) (R : Rattle.machine.specs.Readings.Receiver L) (P : Ratt
     has = λ k x. ltb x (R .count k);
     lead = R .lead;
     inside = λ l x hl h. lt-ltb (R .lead l x) (R .count (L .to l)) (R .inside l x hl (ltb-true x (R .count (L .from l)) h));
-    keeps = λ i x hi h. R .keeps i x hi (ltb-true x (R .count (L .first i)) h)
+    keeps = λ i x hi h. R .keeps i x hi (ltb-true x (R .count (L .first i)) h);
   }
 
   abbrev pub widened-placing : Placing L widened
@@ -77,8 +77,8 @@ module _ (L : Loaded) (R : Rattle.machine.specs.Readings.Receiver L) (P : Ratt
 
 pub one-reading : (L : Loaded) (s : State) → Good L s → One-reading L s
 one-reading L s g R P =
-  let r = g .read (widened L R P) (widened-placing L R P) in
-  record {
-    some = (r .0, narrowed L R P s (r .0) (r .1));
-    only = λ ρ σ a b. only-one L (widened L R P) (widened-placing L R P) s (g .reached) ρ σ (widened-reading L R P s ρ a) (widened-reading L R P s σ b)
-  }
+    let r = g .read (widened L R P) (widened-placing L R P) in
+    record {
+      some = (r .0, narrowed L R P s (r .0) (r .1));
+      only = λ ρ σ a b. only-one L (widened L R P) (widened-placing L R P) s (g .reached) ρ σ (widened-reading L R P s ρ a) (widened-reading L R P s σ b);
+    }

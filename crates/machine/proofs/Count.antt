@@ -49,11 +49,11 @@ apply-room : (L : Loaded) → Accepted L → (o : Op) (s : State) → Good L s �
 apply-room L acc (land k r) s g q = unless-cases Room (land-fault L s k r) s (born (L .kind-map k) (landing k r) s) q (λ e. born-room (L .kind-map k) (landing k r) s q)
 apply-room L acc (define e l) s g q = unless-cases Room (define-fault L s e l) s (born (L .to l) (cell e l) s) q (λ h. born-room (L .to l) (cell e l) s q)
 apply-room L acc (check-rule e i) s g q = unless-cases Room (rule-fault L s e i) s (effect (rule-effect L s e i) s) q
-  (λ h. let t = rule-tests L s e i h in sides-room L s (g .sound) q (walk (s .held) e (L .left i)) (walk (s .held) e (L .right i))
+    (λ h. let t = rule-tests L s e i h in sides-room L s (g .sound) q (walk (s .held) e (L .left i)) (walk (s .held) e (L .right i))
     (walk-valid L s (g .sound) (L .left i) e (t .0) (steps L (L .first i) (L .left i) (acc .left-in i (t .1))))
     (walk-valid L s (g .sound) (L .right i) e (t .0) (steps L (L .first i) (L .right i) (acc .right-in i (t .1)))))
 apply-room L acc (check-link i r) s g q = unless-cases Room (link-fault L s i r) s (effect (link-effect L s i r) s) q
-  (λ h. let t = link-tests L s i r h in
+    (λ h. let t = link-tests L s i r h in
     let a : Slot = landing (L .source-to i) (L .lead i r) in
     let b : Slot = landing (L .source-from i) r in
     sides-room L s (g .sound) q (walk-in (s .held) a []) (walk-in (s .held) b (L .link-map i))

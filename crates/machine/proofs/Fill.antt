@@ -41,29 +41,47 @@ module _ (L : Loaded) (s : State) (t : Slot) where
   hold-in-use o w q = record { below = q .below; if-dead = q .if-dead }
 
   pub empty-sound : Sound L s → Sound L (hold t None s)
-  empty-sound ok = record { lower = ok .lower; fresh = ok .fresh; dead = ok .dead; used = λ u w e. elim (put-held t None (s .held) u w e) [
-      inl q ↦ absurd (some-none w None (q .1) refl)
-    | inr q ↦ (hold-in-use None w (ok .used u w (q .1) .0), hold-owner None u (ok .used u w (q .1) .1))
-    ] }
+  empty-sound ok = record {
+    lower = ok .lower;
+    fresh = ok .fresh;
+    dead = ok .dead;
+    used = λ u w e. elim (put-held t None (s .held) u w e) [
+      | inl q ↦ absurd (some-none w None (q .1) refl)
+      | inr q ↦ (hold-in-use None w (ok .used u w (q .1) .0), hold-owner None u (ok .used u w (q .1) .1))
+    ];
+  }
 
   pub empty-read : (R : Receiver L) (P : Placing L R) (ρ : ℕ → ℕ) → Reading L R P s ρ → Reading L R P (hold t None s) ρ
-  empty-read R P ρ d = record { counted = d .counted; forwards = d .forwards; agrees = λ u w e. elim (put-held t None (s .held) u w e) [
-      inl q ↦ absurd (some-none w None (q .1) refl)
-    | inr q ↦ d .agrees u w (q .1)
-    ] }
+  empty-read R P ρ d = record {
+    counted = d .counted;
+    forwards = d .forwards;
+    agrees = λ u w e. elim (put-held t None (s .held) u w e) [
+      | inl q ↦ absurd (some-none w None (q .1) refl)
+      | inr q ↦ d .agrees u w (q .1)
+    ];
+  }
 
   module _ (a : ℕ) where
     pub fill-sound : Sound L s → In-use s a → Owner L s t → Sound L (hold t (Some a) s)
-    fill-sound ok ua ot = record { lower = ok .lower; fresh = ok .fresh; dead = ok .dead; used = λ u w e. elim (put-held t (Some a) (s .held) u w e) [
-        inl q ↦ (hold-in-use (Some a) w (subst (In-use s) (some-same a w (Some a) refl (q .1)) ua), hold-owner (Some a) u (subst (Owner L s) (sym (q .0)) ot))
-      | inr q ↦ (hold-in-use (Some a) w (ok .used u w (q .1) .0), hold-owner (Some a) u (ok .used u w (q .1) .1))
-      ] }
+    fill-sound ok ua ot = record {
+      lower = ok .lower;
+      fresh = ok .fresh;
+      dead = ok .dead;
+      used = λ u w e. elim (put-held t (Some a) (s .held) u w e) [
+        | inl q ↦ (hold-in-use (Some a) w (subst (In-use s) (some-same a w (Some a) refl (q .1)) ua), hold-owner (Some a) u (subst (Owner L s) (sym (q .0)) ot))
+        | inr q ↦ (hold-in-use (Some a) w (ok .used u w (q .1) .0), hold-owner (Some a) u (ok .used u w (q .1) .1))
+      ];
+    }
 
     pub fill-read : (R : Receiver L) (P : Placing L R) (ρ : ℕ → ℕ) → Reading L R P s ρ → ρ a ≡ worth (R .lead) (P .at) ρ t → Reading L R P (hold t (Some a) s) ρ
-    fill-read R P ρ d j = record { counted = d .counted; forwards = d .forwards; agrees = λ u w e. elim (put-held t (Some a) (s .held) u w e) [
-        inl q ↦ ap ρ (sym (some-same a w (Some a) refl (q .1))) ∙ (j ∙ ap (worth (R .lead) (P .at) ρ) (sym (q .0)))
-      | inr q ↦ d .agrees u w (q .1)
-      ] }
+    fill-read R P ρ d j = record {
+      counted = d .counted;
+      forwards = d .forwards;
+      agrees = λ u w e. elim (put-held t (Some a) (s .held) u w e) [
+        | inl q ↦ ap ρ (sym (some-same a w (Some a) refl (q .1))) ∙ (j ∙ ap (worth (R .lead) (P .at) ρ) (sym (q .0)))
+        | inr q ↦ d .agrees u w (q .1)
+      ];
+    }
 
     pub fill-closed : s .held t ≡ None → (Q : ℕ → Type 0) → Closed Q (hold t (Some a) s) → Closed Q s
     fill-closed none Q c = record { goes = c .goes; comes = c .comes; fits = λ u w e b. c .fits u w (put-there t (Some a) (s .held) u (λ q. some-none w (s .held t) (sym (ap (s .held) q) ∙ e) none) ∙ e) b }
@@ -89,9 +107,9 @@ module _ (L : Loaded) (s : State) (t : Slot) where
       fresh = λ x h. ok .fresh x (omega (arith, h));
       dead = ok .dead;
       used = λ u w e. elim (put-held t (Some (s .given)) (s .held) u w e) [
-          inl q ↦ (subst (In-use (born k t s)) (some-same (s .given) w (Some (s .given)) refl (q .1)) born-new, born-owner u (subst (Owner L s) (sym (q .0)) ot))
+        | inl q ↦ (subst (In-use (born k t s)) (some-same (s .given) w (Some (s .given)) refl (q .1)) born-new, born-owner u (subst (Owner L s) (sym (q .0)) ot))
         | inr q ↦ (born-in-use w (ok .used u w (q .1) .0), born-owner u (ok .used u w (q .1) .1))
-        ]
+      ];
     }
 
     before-reached : (u : Slot) → Owner L s u → ((e : ℕ) → e < s .given → Reach (born k t s) e) → Before (Reach (born k t s)) u
@@ -100,13 +118,13 @@ module _ (L : Loaded) (s : State) (t : Slot) where
 
     pub born-reached : ((e : ℕ) → e < s .given → Reach s e) → (e : ℕ) → e < suc (s .given) → Reach (born k t s) e
     born-reached all e h =
-      let c = closed-reach (born k t s) in
-      let d : Closed (Reach (born k t s)) s = record { goes = c .goes; comes = c .comes; fits = λ u w q b. c .fits u w (put-there t (Some (s .given)) (s .held) u (λ p. some-none w (s .held t) (sym (ap (s .held) p) ∙ q) none) ∙ q) b } in
-      let old : (x : ℕ) → x < s .given → Reach (born k t s) x = λ x b. closed-all d (all x b) in
-      elim (cases-eq e (s .given)) [
-        inl q ↦ subst (Reach (born k t s)) (sym q) (c .fits t (s .given) (put-here t (Some (s .given)) (s .held)) (before-reached t ot old))
-      | inr q ↦ old e (omega (arith, h, q))
-      ]
+        let c = closed-reach (born k t s) in
+        let d : Closed (Reach (born k t s)) s = record { goes = c .goes; comes = c .comes; fits = λ u w q b. c .fits u w (put-there t (Some (s .given)) (s .held) u (λ p. some-none w (s .held t) (sym (ap (s .held) p) ∙ q) none) ∙ q) b } in
+        let old : (x : ℕ) → x < s .given → Reach (born k t s) x = λ x b. closed-all d (all x b) in
+        elim (cases-eq e (s .given)) [
+          | inl q ↦ subst (Reach (born k t s)) (sym q) (c .fits t (s .given) (put-here t (Some (s .given)) (s .held)) (before-reached t ot old))
+          | inr q ↦ old e (omega (arith, h, q))
+        ]
 
     module _ (R : Receiver L) (P : Placing L R) (ρ : ℕ → ℕ) (d : Reading L R P s ρ) (fits : R .has k (worth (R .lead) (P .at) ρ t) ≡ true) where
       new-value : ℕ
@@ -136,26 +154,29 @@ module _ (L : Loaded) (s : State) (t : Slot) where
 
       pub born-read : (σ : ℕ → ℕ) × Reading L R P (born k t s) σ
       unfolding new-value
-      born-read = (longer, record {
-        counted = λ e h. elim (cases-eq e (s .given)) [
-            inl q ↦ ap (λ j. R .has j (longer e)) (kind-new e q) ∙ (ap (R .has k) (longer-new e q) ∙ fits)
-          | inr q ↦ ap (λ j. R .has j (longer e)) (kind-old e q) ∙ (ap (R .has (s .kind e)) (longer-old e q) ∙ d .counted e (omega (arith, h, q)))
+      born-read = (
+        longer,
+        record {
+          counted = λ e h. elim (cases-eq e (s .given)) [
+            | inl q ↦ ap (λ j. R .has j (longer e)) (kind-new e q) ∙ (ap (R .has k) (longer-new e q) ∙ fits)
+            | inr q ↦ ap (λ j. R .has j (longer e)) (kind-old e q) ∙ (ap (R .has (s .kind e)) (longer-old e q) ∙ d .counted e (omega (arith, h, q)))
           ];
-        agrees = λ u w e. elim (put-held t (Some (s .given)) (s .held) u w e) [
-            inl q ↦ longer-new w (some-same w (s .given) (Some (s .given)) (q .1) refl) ∙ (ap (worth (R .lead) (P .at) ρ) (sym (q .0)) ∙ sym (worth-longer u (subst (Owner L s) (sym (q .0)) ot)))
-          | inr q ↦ longer-below w (ok .used u w (q .1) .0 .below) ∙ (d .agrees u w (q .1) ∙ sym (worth-longer u (ok .used u w (q .1) .1)))
+          agrees = λ u w e. elim (put-held t (Some (s .given)) (s .held) u w e) [
+            | inl q ↦ longer-new w (some-same w (s .given) (Some (s .given)) (q .1) refl) ∙ (ap (worth (R .lead) (P .at) ρ) (sym (q .0)) ∙ sym (worth-longer u (subst (Owner L s) (sym (q .0)) ot)))
+            | inr q ↦ longer-below w (ok .used u w (q .1) .0 .below) ∙ (d .agrees u w (q .1) ∙ sym (worth-longer u (ok .used u w (q .1) .1)))
           ];
-        forwards = λ x. elim (cases-eq (s .forward x) x) [
-            inl q ↦ ap longer q
-          | inr q ↦ (
-              let b : x < s .given = elim (Rattle.std.proofs.shelf.Tests.cases-lt x (s .given)) [ inl y ↦ y | inr y ↦ absurd (q (ok .fresh x y)) ] in
-              longer-below (s .forward x) (omega (arith, ok .lower x, b)) ∙ (d .forwards x ∙ sym (longer-below x b)))
-          ]
-      })
+          forwards = λ x. elim (cases-eq (s .forward x) x) [
+            | inl q ↦ ap longer q
+            | inr q ↦ (
+                let b : x < s .given = elim (Rattle.std.proofs.shelf.Tests.cases-lt x (s .given)) [ inl y ↦ y | inr y ↦ absurd (q (ok .fresh x y)) ] in
+                longer-below (s .forward x) (omega (arith, ok .lower x, b)) ∙ (d .forwards x ∙ sym (longer-below x b)))
+          ];
+        },
+      )
 
     pub born-good : (g : Good L s) → ((R : Receiver L) (P : Placing L R) (ρ : ℕ → ℕ) → Reading L R P s ρ → R .has k (worth (R .lead) (P .at) ρ t) ≡ true) → Good L (born k t s)
     born-good g fits = record {
       sound = born-sound;
       read = λ R P. let r = g .read R P in born-read R P (r .0) (r .1) (fits R P (r .0) (r .1));
-      reached = born-reached (g .reached)
+      reached = born-reached (g .reached);
     }

@@ -43,9 +43,9 @@ kept-then s y z f g a b = record {
   numbered = λ x h. b .numbered (f x) (a .numbered x h);
   together = λ x x′ q. b .together (f x) (f x′) (a .together x x′ q);
   found = λ t w e.
-    let m = a .found t w e in
-    let n = b .found (m .0) (m .1) (m .2) in
-    (n .0, n .1, n .2, n .3 ∙ place-then y z f g (b .together) (m .0) t (m .3), n .4 ∙ b .together (m .1) (f w) (m .4))
+      let m = a .found t w e in
+      let n = b .found (m .0) (m .1) (m .2) in
+      (n .0, n .1, n .2, n .3 ∙ place-then y z f g (b .together) (m .0) t (m .3), n .4 ∙ b .together (m .1) (f w) (m .4));
 }
 
 -- the living end of a living end
@@ -63,21 +63,21 @@ joined-ends s a b z j x = chase-keeps (s .forward) (λ y. end z y ≡ end z x) (
 module _ (s : State) (lower : (x : ℕ) → s .forward x ≤ x) where
   die-joined : (h l : ℕ) → s .forward h ≡ h → l < h → Joined s h l (die h l s)
   die-joined h l alive less =
-    let onward = end-forward (die h l s .forward) (λ x. elim (turned-cases (s .forward) h l x) [ inl e ↦ omega (arith, e .0, e .1, less) | inr e ↦ omega (arith, e .1, lower x) ]) in
-    record {
-      steps = λ x. elim (turned-cases (s .forward) h l x) [
-          inl e ↦ ap (end (die h l s)) (ap (s .forward) (e .0) ∙ (alive ∙ sym (e .0)))
-        | inr e ↦ ap (end (die h l s)) (sym (e .1)) ∙ onward x
+      let onward = end-forward (die h l s .forward) (λ x. elim (turned-cases (s .forward) h l x) [ inl e ↦ omega (arith, e .0, e .1, less) | inr e ↦ omega (arith, e .1, lower x) ]) in
+      record {
+        steps = λ x. elim (turned-cases (s .forward) h l x) [
+          | inl e ↦ ap (end (die h l s)) (ap (s .forward) (e .0) ∙ (alive ∙ sym (e .0)))
+          | inr e ↦ ap (end (die h l s)) (sym (e .1)) ∙ onward x
         ];
-      meets = elim (turned-cases (s .forward) h l h) [ inl e ↦ sym (onward h) ∙ ap (end (die h l s)) (e .1) | inr e ↦ absurd (e .0 refl) ]
-    }
+        meets = elim (turned-cases (s .forward) h l h) [ inl e ↦ sym (onward h) ∙ ap (end (die h l s)) (e .1) | inr e ↦ absurd (e .0 refl) ];
+      }
 
   module _ (a b : ℕ) where
     ends-joined : Joined s (end s a) (end s b) (merge a b s)
     ends-joined = meet-cases (Joined s (end s a) (end s b)) (end s a) (end s b) s
-      (λ q. let j = die-joined (end s b) (end s a) (living b) q in record { steps = j .steps; meets = sym (j .meets) })
-      (λ q. die-joined (end s a) (end s b) (living a) q)
-      (λ q. record { steps = end-forward (s .forward) lower; meets = ap (end s) q })
+        (λ q. let j = die-joined (end s b) (end s a) (living b) q in record { steps = j .steps; meets = sym (j .meets) })
+        (λ q. die-joined (end s a) (end s b) (living a) q)
+        (λ q. record { steps = end-forward (s .forward) lower; meets = ap (end s) q })
       where
         living : (x : ℕ) → s .forward (end s x) ≡ end s x
         living x = chase-lives (s .forward) lower x x (omega arith)
@@ -92,7 +92,7 @@ module _ (s : State) (lower : (x : ℕ) → s .forward x ≤ x) where
     merge-kept = record {
       numbered = λ x h. meet-cases (λ z. x < z .given) (end s a) (end s b) s (λ q. h) (λ q. h) (λ q. h);
       together = λ x y q. sym (merge-ends x) ∙ (ap (end (merge a b s)) q ∙ merge-ends y);
-      found = λ t w e. still (merge a b s) t w (meet-cases (λ z. z .held t ≡ Some w) (end s a) (end s b) s (λ q. e) (λ q. e) (λ q. e))
+      found = λ t w e. still (merge a b s) t w (meet-cases (λ z. z .held t ≡ Some w) (end s a) (end s b) s (λ q. e) (λ q. e) (λ q. e));
     }
 
 -- filling an empty slot, with an old entry or a new one

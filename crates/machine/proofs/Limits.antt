@@ -23,18 +23,19 @@ sum-part : (f : ℕ → ℕ) (n k : ℕ) → k < n → f k ≤ sum f n
 unfolding sum
 sum-part f zero k h = absurd (omega arith)
 sum-part f (suc n) k h = ⊎-elim
-  (λ (q : k < n). let r = sum-part f n k q in omega arith)
-  (λ (q : n ≤ k). let e : k ≡ n = omega arith in rw e (omega arith))
-  (cases-lt k n)
+    (λ (q : k < n). let r = sum-part f n k q in omega arith)
+    (λ (q : n ≤ k). let e : k ≡ n = omega arith in rw e (omega arith))
+    (cases-lt k n)
 
 pub load-limits : (work : ℕ) (ws : List ℕ) (m : Meaning) (L : Loaded) → load work ws m ≡ Ok L → Limits L
 load-limits work ws m L e =
-  let l = loads work ws m L e in
-  let p = l .problem in
-  let w = l .well-formed in
-  subst Limits (sym (l .takes)) (record {
-    kinds = w .target .few;
-    links = w .target .few-links;
-    entries = omega arith;
-    source-kinds = w .source .few;
-    records = λ k h. let r = sum-part (m .count) (p .source-kinds) k h in omega (arith, l .fits .few) })
+    let l = loads work ws m L e in
+    let p = l .problem in
+    let w = l .well-formed in
+    subst Limits (sym (l .takes)) (record {
+      kinds = w .target .few;
+      links = w .target .few-links;
+      entries = omega arith;
+      source-kinds = w .source .few;
+      records = λ k h. let r = sum-part (m .count) (p .source-kinds) k h in omega (arith, l .fits .few);
+    })

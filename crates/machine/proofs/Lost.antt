@@ -60,16 +60,16 @@ module _ (L : Loaded) (s : State) (g : Good L s) where
 
   apply-kept : (o : Op) → Kept s (apply L o s) (op-renames o s)
   apply-kept (land k r) = unless-cases (λ z. Kept s z (λ x. x)) (land-fault L s k r) s (born (L .kind-map k) (landing k r) s) (kept-none s)
-    (λ e. born-kept s (landing k r) (land-tests L s k r e .2) (L .kind-map k))
+      (λ e. born-kept s (landing k r) (land-tests L s k r e .2) (L .kind-map k))
   apply-kept (define e l) = unless-cases (λ z. Kept s z (λ x. x)) (define-fault L s e l) s (born (L .to l) (cell e l) s) (kept-none s)
-    (λ h. born-kept s (cell e l) (define-tests L s e l h .3) (L .to l))
+      (λ h. born-kept s (cell e l) (define-tests L s e l h .3) (L .to l))
   apply-kept (check-rule e i) = unless-cases (λ z. Kept s z (λ x. x)) (rule-fault L s e i) s (effect (rule-effect L s e i) s) (kept-none s)
-    (λ h. sides-kept (walk (s .held) e (L .left i)) (walk (s .held) e (L .right i)) (walk-open (s .held) e (L .left i)) (walk-open (s .held) e (L .right i)))
+      (λ h. sides-kept (walk (s .held) e (L .left i)) (walk (s .held) e (L .right i)) (walk-open (s .held) e (L .left i)) (walk-open (s .held) e (L .right i)))
   apply-kept (check-link i r) =
-    let t : Slot = landing (L .source-to i) (L .lead i r) in
-    let f : Slot = landing (L .source-from i) r in
-    unless-cases (λ z. Kept s z (λ x. x)) (link-fault L s i r) s (effect (link-effect L s i r) s) (kept-none s)
-    (λ h. sides-kept (walk-in (s .held) t []) (walk-in (s .held) f (L .link-map i)) (walk-in-open (s .held) t []) (walk-in-open (s .held) f (L .link-map i)))
+      let t : Slot = landing (L .source-to i) (L .lead i r) in
+      let f : Slot = landing (L .source-from i) r in
+      unless-cases (λ z. Kept s z (λ x. x)) (link-fault L s i r) s (effect (link-effect L s i r) s) (kept-none s)
+      (λ h. sides-kept (walk-in (s .held) t []) (walk-in (s .held) f (L .link-map i)) (walk-in-open (s .held) t []) (walk-in-open (s .held) f (L .link-map i)))
   apply-kept settle = unless-cases (λ z. Kept s z (λ x. x)) (settle-fault s) s (settled L s) (kept-none s) (λ h. settled-moved L s (g .sound) .1 .kept)
   apply-kept sweep = sweep-kept (waits (s .waiting)) refl
 
@@ -104,29 +104,31 @@ not-lost L s z f g k = record {
   cells = in-cell;
   quiet-landings = λ none i r w e. let m = in-landing i r w e in m .1 ∙ ap Some (living none (m .0) (f w) (g .sound .used (landing i r) (m .0) (m .1) .0) (m .2));
   quiet-cells = λ none e l w h.
-    let m = in-cell e l w h in
-    ap (λ x. z .held (cell x l)) (sym (living none (m .0) (f e) (m .2) (m .3))) ∙ (m .4 ∙ ap Some (living none (m .1) (f w) (g .sound .used (cell (m .0) l) (m .1) (m .4) .0) (m .5)))
+      let m = in-cell e l w h in
+      ap (λ x. z .held (cell x l)) (sym (living none (m .0) (f e) (m .2) (m .3))) ∙ (m .4 ∙ ap Some (living none (m .1) (f w) (g .sound .used (cell (m .0) l) (m .1) (m .4) .0) (m .5)));
 }
   where
     in-landing : (i r w : ℕ) → s .held (landing i r) ≡ Some w → (v : ℕ) × (z .held (landing i r) ≡ Some v) × (end z v ≡ end z (f w))
     in-landing i r w e = let m = k .found (landing i r) w e in (m .1, ap (z .held) (sym (at-landing z (m .0) i r (m .3))) ∙ m .2, m .4)
+
     in-cell : (e l w : ℕ) → s .held (cell e l) ≡ Some w → (d : ℕ) × (v : ℕ) × In-use z d × (end z d ≡ end z (f e)) × (z .held (cell d l) ≡ Some v) × (end z v ≡ end z (f w))
     in-cell e l w h =
-      let m = k .found (cell e l) w h in
-      let a = at-cell z (m .0) (end z (f e)) l (m .3) in
-      let held : z .held (cell (a .0) l) ≡ Some (m .1) = ap (z .held) (sym (a .1)) ∙ m .2 in
-      (a .0, m .1, g .sound .used (cell (a .0) l) (m .1) held .1 .0, a .2, held, m .4)
+        let m = k .found (cell e l) w h in
+        let a = at-cell z (m .0) (end z (f e)) l (m .3) in
+        let held : z .held (cell (a .0) l) ≡ Some (m .1) = ap (z .held) (sym (a .1)) ∙ m .2 in
+        (a .0, m .1, g .sound .used (cell (a .0) l) (m .1) held .1 .0, a .2, held, m .4)
+
     living : z .waiting ≡ [] → (x y : ℕ) → In-use z x → end z x ≡ end z y → x ≡ end z y
     living none x y u q = sym (use-end L z g none x u) ∙ q
 
 pub nothing-lost : Nothing-lost
 nothing-lost L acc cs c =
-  let s = calls L cs start in
-  let g = calls-good L acc cs start (start-good L) in
-  not-lost L s (call L c s) (call-renames L c s) (call-good L acc c s g) (call-kept L s g c)
+    let s = calls L cs start in
+    let g = calls-good L acc cs start (start-good L) in
+    not-lost L s (call L c s) (call-renames L c s) (call-good L acc c s g) (call-kept L s g c)
 
 pub never-lost : Never-lost
 never-lost L acc cs ds =
-  let s = calls L cs start in
-  let g = calls-good L acc cs start (start-good L) in
-  not-lost L s (calls L ds s) (calls-rename L ds s) (calls-good L acc ds s g) (calls-kept L acc ds s g)
+    let s = calls L cs start in
+    let g = calls-good L acc cs start (start-good L) in
+    not-lost L s (calls L ds s) (calls-rename L ds s) (calls-good L acc ds s g) (calls-kept L acc ds s g)

@@ -57,9 +57,9 @@ pub member-in : (x : ℕ) (xs : List ℕ) → member x xs ≡ true → In x xs
 unfolding member nth
 member-in x [] e = absurd (false≢true e)
 member-in x (y ∷ ys) e = elim (cases-eq x y) [
-    inl q ↦ (0, ap Some (sym q))
+  | inl q ↦ (0, ap Some (sym q))
   | inr q ↦ (let n = ne-eqb x y q in let r = member-in x ys ((ap (λ b. b || member x ys) (sym n)) ∙ e) in (suc (r .0), r .1))
-  ]
+]
 
 pub in-member : (x : ℕ) (xs : List ℕ) (i : ℕ) → nth xs i ≡ Some x → member x xs ≡ false → ⊥
 unfolding member nth
@@ -108,10 +108,10 @@ nth-split (y ∷ xs) x (suc i) w e = elim (nth-split xs x i w e) [ inl q ↦ inl
 met-fine : (P : ℕ → Type 0) (x : ℕ) (xs : List ℕ) → P x → Fine P xs → Fine P (met x xs)
 met-fine P x xs px f = met-cases (Fine P) x xs (λ e. f) (λ e. record {
   once = λ i j w p q. elim (nth-split xs x i w p) [
-      inl a ↦ elim (nth-split xs x j w q) [ inl b ↦ f .once i j w a b | inr b ↦ absurd (in-member x xs i (a ∙ ap Some (b .1)) e) ]
+    | inl a ↦ elim (nth-split xs x j w q) [ inl b ↦ f .once i j w a b | inr b ↦ absurd (in-member x xs i (a ∙ ap Some (b .1)) e) ]
     | inr a ↦ elim (nth-split xs x j w q) [ inl b ↦ absurd (in-member x xs j (b ∙ ap Some (a .1)) e) | inr b ↦ a .0 ∙ sym (b .0) ]
-    ];
-  all = λ i w p. elim (nth-split xs x i w p) [ inl a ↦ f .all i w a | inr a ↦ subst P (sym (a .1)) px ]
+  ];
+  all = λ i w p. elim (nth-split xs x i w p) [ inl a ↦ f .all i w a | inr a ↦ subst P (sym (a .1)) px ];
 })
 
 -- as many different numbers below n as m: m ≤ n
@@ -125,22 +125,22 @@ pigeon : (n m : ℕ) (f : ℕ → ℕ) → ((i : ℕ) → i < m → f i < n) →
 pigeon n zero f b inj = omega arith
 pigeon zero (suc m) f b inj = absurd (omega (arith, b 0 (omega arith)))
 pigeon (suc n) (suc m) f b inj =
-  let r = pigeon n m (moved f n m)
+    let r = pigeon n m (moved f n m)
     (λ i h. elim (moved-cases f n m i) [
-        inl e ↦ (let k : f m ≡ n → ⊥ = λ q. (let z = inj i m (omega (arith, h)) (omega arith) (e .0 ∙ sym q) in omega (arith, z, h)) in omega (arith, k, e .1, b m (omega arith)))
+      | inl e ↦ (let k : f m ≡ n → ⊥ = λ q. (let z = inj i m (omega (arith, h)) (omega arith) (e .0 ∙ sym q) in omega (arith, z, h)) in omega (arith, k, e .1, b m (omega arith)))
       | inr e ↦ omega (arith, e .0, e .1, b i (omega (arith, h)))
-      ])
+    ])
     (λ i j hi hj q. elim (moved-cases f n m i) [
-        inl a ↦ elim (moved-cases f n m j) [
-            inl c ↦ inj i j (omega (arith, hi)) (omega (arith, hj)) (a .0 ∙ sym (c .0))
-          | inr c ↦ absurd (let z = inj m j (omega arith) (omega (arith, hj)) (sym (a .1) ∙ (q ∙ c .1)) in omega (arith, z, hj))
-          ]
+      | inl a ↦ elim (moved-cases f n m j) [
+        | inl c ↦ inj i j (omega (arith, hi)) (omega (arith, hj)) (a .0 ∙ sym (c .0))
+        | inr c ↦ absurd (let z = inj m j (omega arith) (omega (arith, hj)) (sym (a .1) ∙ (q ∙ c .1)) in omega (arith, z, hj))
+      ]
       | inr a ↦ elim (moved-cases f n m j) [
-            inl c ↦ absurd (let z = inj i m (omega (arith, hi)) (omega arith) (sym (a .1) ∙ (q ∙ c .1)) in omega (arith, z, hi))
-          | inr c ↦ inj i j (omega (arith, hi)) (omega (arith, hj)) (sym (a .1) ∙ (q ∙ c .1))
-          ]
-      ]) in
-  omega (arith, r)
+        | inl c ↦ absurd (let z = inj i m (omega (arith, hi)) (omega arith) (sym (a .1) ∙ (q ∙ c .1)) in omega (arith, z, hi))
+        | inr c ↦ inj i j (omega (arith, hi)) (omega (arith, hj)) (sym (a .1) ∙ (q ∙ c .1))
+      ]
+    ]) in
+    omega (arith, r)
 
 pub nth-some : (xs : List ℕ) (i : ℕ) → i < length xs → (w : ℕ) × (nth xs i ≡ Some w)
 unfolding nth
@@ -153,8 +153,8 @@ value o = on o 0 (λ w. w)
 
 pub fine-short : (n : ℕ) (P : ℕ → Type 0) (xs : List ℕ) → ((e : ℕ) → P e → e < n) → Fine P xs → length xs ≤ n
 fine-short n P xs below f = pigeon n (length xs) (λ i. value (nth xs i))
-  (λ i h. let a = nth-some xs i h in subst (λ x. x < n) (sym (ap value (a .1))) (below (a .0) (f .all i (a .0) (a .1))))
-  (λ i j hi hj q.
+    (λ i h. let a = nth-some xs i h in subst (λ x. x < n) (sym (ap value (a .1))) (below (a .0) (f .all i (a .0) (a .1))))
+    (λ i j hi hj q.
     let a = nth-some xs i hi in
     let b = nth-some xs j hj in
     let z : a .0 ≡ b .0 = sym (ap value (a .1)) ∙ (q ∙ ap value (b .1)) in
@@ -191,9 +191,9 @@ module _ (L : Loaded) (s : State) (g : Good L s) (quiet : s .waiting ≡ []) whe
   unfolding of-cells
   cells-has e zero xs k w h q = absurd (omega (arith, h))
   cells-has e (suc l) xs k w h q = elim (cases-eq k l) [
-      inl z ↦ met-in-has (cell e l) (of-cells s e l xs) w (ap (λ j. s .held (cell e j)) (sym z) ∙ q)
+    | inl z ↦ met-in-has (cell e l) (of-cells s e l xs) w (ap (λ j. s .held (cell e j)) (sym z) ∙ q)
     | inr z ↦ longer-in (of-cells s e l xs) (met-in (s .held (cell e l)) (of-cells s e l xs)) (met-in-longer (cell e l) (of-cells s e l xs)) w (cells-has e l xs k w (omega (arith, h, z)) q)
-    ]
+  ]
 
   kind-longer : (k r : ℕ) (xs : List ℕ) → Longer xs (of-kind s k r xs)
   unfolding of-kind
@@ -209,9 +209,9 @@ module _ (L : Loaded) (s : State) (g : Good L s) (quiet : s .waiting ≡ []) whe
   unfolding of-kind
   kind-has k zero xs q w h e = absurd (omega (arith, h))
   kind-has k (suc r) xs q w h e = elim (cases-eq q r) [
-      inl z ↦ met-in-has (landing k r) (of-kind s k r xs) w (ap (λ j. s .held (landing k j)) (sym z) ∙ e)
+    | inl z ↦ met-in-has (landing k r) (of-kind s k r xs) w (ap (λ j. s .held (landing k j)) (sym z) ∙ e)
     | inr z ↦ longer-in (of-kind s k r xs) (met-in (s .held (landing k r)) (of-kind s k r xs)) (met-in-longer (landing k r) (of-kind s k r xs)) w (kind-has k r xs q w (omega (arith, h, z)) e)
-    ]
+  ]
 
   pub landings-fine : (n : ℕ) → Fine Lives (of-landings L s n)
   unfolding of-landings nth
@@ -222,9 +222,9 @@ module _ (L : Loaded) (s : State) (g : Good L s) (quiet : s .waiting ≡ []) whe
   unfolding of-landings
   landings-has zero k r w hk hr e = absurd (omega (arith, hk))
   landings-has (suc n) k r w hk hr e = elim (cases-eq k n) [
-      inl z ↦ kind-has n (L .count n) (of-landings L s n) r w (subst (λ j. r < L .count j) z hr) (ap (λ j. s .held (landing j r)) (sym z) ∙ e)
+    | inl z ↦ kind-has n (L .count n) (of-landings L s n) r w (subst (λ j. r < L .count j) z hr) (ap (λ j. s .held (landing j r)) (sym z) ∙ e)
     | inr z ↦ longer-in (of-landings L s n) (of-kind s n (L .count n) (of-landings L s n)) (kind-longer n (L .count n) (of-landings L s n)) w (landings-has n k r w (omega (arith, hk, z)) hr e)
-    ]
+  ]
 
   pub visit-longer : (n : ℕ) (xs : List ℕ) → Longer xs (visit L s n xs)
   visit-longer n xs = on-cases (Longer xs) (nth xs n) xs (λ e. of-cells s e (L .links) xs) (λ q. longer-none xs) (λ e q. cells-longer e (L .links) xs)
@@ -248,20 +248,20 @@ module _ (L : Loaded) (s : State) (g : Good L s) (quiet : s .waiting ≡ []) whe
 
   visit-visited : (n : ℕ) (xs : List ℕ) → Visited n xs → Visited (suc n) (visit L s n xs)
   visit-visited n xs v = on-cases (Visited (suc n)) (nth xs n) xs (λ e. of-cells s e (L .links) xs)
-    (λ none i e h q k w hk held. elim (cases-eq i n) [
-        inl z ↦ absurd (some-none e (nth xs n) (ap (nth xs) (sym z) ∙ q) none)
-      | inr z ↦ v i e (omega (arith, h, z)) q k w hk held
+      (λ none i e h q k w hk held. elim (cases-eq i n) [
+        | inl z ↦ absurd (some-none e (nth xs n) (ap (nth xs) (sym z) ∙ q) none)
+        | inr z ↦ v i e (omega (arith, h, z)) q k w hk held
       ])
-    (λ d some i e h q k w hk held. elim (cases-eq i n) [
-        inl z ↦ (
-          let now = cells-longer d (L .links) xs .keeps n d some in
-          let same : d ≡ e = some-same d e (nth (of-cells s d (L .links) xs) n) now (ap (nth (of-cells s d (L .links) xs)) (sym z) ∙ q) in
-          cells-has d (L .links) xs k w hk (ap (λ y. s .held (cell y k)) same ∙ held))
-      | inr z ↦ (
-          let old = nth-before xs i n d (omega (arith, h, z)) some in
-          let now = cells-longer d (L .links) xs .keeps i (old .0) (old .1) in
-          let same : old .0 ≡ e = some-same (old .0) e (nth (of-cells s d (L .links) xs) i) now q in
-          longer-in xs (of-cells s d (L .links) xs) (cells-longer d (L .links) xs) w (v i e (omega (arith, h, z)) (old .1 ∙ ap Some same) k w hk held))
+      (λ d some i e h q k w hk held. elim (cases-eq i n) [
+        | inl z ↦ (
+            let now = cells-longer d (L .links) xs .keeps n d some in
+            let same : d ≡ e = some-same d e (nth (of-cells s d (L .links) xs) n) now (ap (nth (of-cells s d (L .links) xs)) (sym z) ∙ q) in
+            cells-has d (L .links) xs k w hk (ap (λ y. s .held (cell y k)) same ∙ held))
+        | inr z ↦ (
+            let old = nth-before xs i n d (omega (arith, h, z)) some in
+            let now = cells-longer d (L .links) xs .keeps i (old .0) (old .1) in
+            let same : old .0 ≡ e = some-same (old .0) e (nth (of-cells s d (L .links) xs) i) now q in
+            longer-in xs (of-cells s d (L .links) xs) (cells-longer d (L .links) xs) w (v i e (omega (arith, h, z)) (old .1 ∙ ap Some same) k w hk held))
       ])
 
   pub grown-visited : (n : ℕ) → Visited n (grown L s n)
@@ -276,27 +276,28 @@ module _ (L : Loaded) (s : State) (g : Good L s) (quiet : s .waiting ≡ []) whe
   ends-in = record {
     fits = fit;
     goes = λ x q. subst (λ y. In y xs) (sym (end-forward (s .forward) (g .sound .lower) x)) q;
-    comes = λ x q. subst (λ y. In y xs) (end-forward (s .forward) (g .sound .lower) x) q
+    comes = λ x q. subst (λ y. In y xs) (end-forward (s .forward) (g .sound .lower) x) q;
   }
     where
       stays : (w : ℕ) → Lives w → end s w ≡ w
       stays w h = chase-fix (s .forward) w w (h .1)
+
       fit : (t : Slot) (w : ℕ) → s .held t ≡ Some w → Before (λ e. In (end s e) xs) t → In (end s w) xs
       fit (landing k r) w e b =
-        let o = g .sound .used (landing k r) w e .1 in
-        subst (λ y. In y xs) (sym (stays w (held-lives (landing k r) w e))) (longer-in (of-landings L s (L .source-kinds)) xs (grown-longer (s .given)) w (landings-has (L .source-kinds) k r w (o .0) (o .1) e))
+          let o = g .sound .used (landing k r) w e .1 in
+          subst (λ y. In y xs) (sym (stays w (held-lives (landing k r) w e))) (longer-in (of-landings L s (L .source-kinds)) xs (grown-longer (s .given)) w (landings-has (L .source-kinds) k r w (o .0) (o .1) e))
       fit (cell d l) w e b =
-        let o = g .sound .used (cell d l) w e .1 in
-        let h = use-lives L s g quiet d (o .0) in
-        let p : In d xs = subst (λ y. In y xs) (chase-fix (s .forward) d d h) b in
-        let short = fine-short (s .given) Lives xs (λ y q. q .0) (grown-fine (s .given)) in
-        subst (λ y. In y xs) (sym (stays w (held-lives (cell d l) w e))) (grown-visited (s .given) (p .0) d (omega (arith, nth-below xs (p .0) d (p .1), short)) (p .1) l w (o .1) e)
+          let o = g .sound .used (cell d l) w e .1 in
+          let h = use-lives L s g quiet d (o .0) in
+          let p : In d xs = subst (λ y. In y xs) (chase-fix (s .forward) d d h) b in
+          let short = fine-short (s .given) Lives xs (λ y q. q .0) (grown-fine (s .given)) in
+          subst (λ y. In y xs) (sym (stays w (held-lives (cell d l) w e))) (grown-visited (s .given) (p .0) d (omega (arith, nth-below xs (p .0) d (p .1), short)) (p .1) l w (o .1) e)
 
   pub numbers : Numbers L s
   numbers = record {
     each = λ e h live. subst (λ y. In y xs) (chase-fix (s .forward) e e live) (closed-all ends-in (g .reached e h));
     once = grown-fine (s .given) .once;
-    only = grown-fine (s .given) .all
+    only = grown-fine (s .given) .all;
   }
 
 pub all-numbered : All-numbered

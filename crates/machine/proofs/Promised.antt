@@ -39,18 +39,18 @@ finishes-told L s vs f = let t = put-told (finish-fault L s) (finish-words L s) 
 
 pub promise : Promise
 promise work ws m L e cs =
-  let acc = accepted work ws m L e in
-  let done = λ (vs : List ℕ) (f : Finishes L (calls L cs start) vs). finish-accepts L acc cs .0 (finishes-told L (calls L cs start) vs f .0) in
-  record {
-    source = taken-from work ws m L e;
-    one-reading = one-reading-of-calls L acc cs;
-    finished = λ vs f. (let c = done vs f in (record { landings = c .landed; cells = c .defined }, complete-keeps L (calls L cs start) c));
-    numbered = λ vs f. finishes-told L (calls L cs start) vs f .1;
-    same-words = λ work′ K d ds us vs f g.
-      let q = same-load work ws m L e work′ K d in
-      let t = finishes-told K (calls K ds start) vs g in
-      let c = finish-accepts K (accepted work′ ws m K d) ds .0 (t .0) in
-      finishes-told L (calls L cs start) us f .1
-      ∙ (one-finish L acc (L .capacity) (K .capacity) cs ds (done us f) (subst (λ M. Complete M (calls M ds start)) q c)
-      ∙ (ap (λ M. finish-words M (calls M ds start)) (sym q) ∙ sym (t .1)))
-  }
+    let acc = accepted work ws m L e in
+    let done = λ (vs : List ℕ) (f : Finishes L (calls L cs start) vs). finish-accepts L acc cs .0 (finishes-told L (calls L cs start) vs f .0) in
+    record {
+      source = taken-from work ws m L e;
+      one-reading = one-reading-of-calls L acc cs;
+      finished = λ vs f. (let c = done vs f in (record { landings = c .landed; cells = c .defined }, complete-keeps L (calls L cs start) c));
+      numbered = λ vs f. finishes-told L (calls L cs start) vs f .1;
+      same-words = λ work′ K d ds us vs f g.
+          let q = same-load work ws m L e work′ K d in
+          let t = finishes-told K (calls K ds start) vs g in
+          let c = finish-accepts K (accepted work′ ws m K d) ds .0 (t .0) in
+          finishes-told L (calls L cs start) us f .1
+          ∙ (one-finish L acc (L .capacity) (K .capacity) cs ds (done us f) (subst (λ M. Complete M (calls M ds start)) q c)
+          ∙ (ap (λ M. finish-words M (calls M ds start)) (sym q) ∙ sym (t .1)));
+    }

@@ -59,5 +59,5 @@ refusals-change-nothing = record {
   check-link = λ i r. calling-unchanged (check-link i r) (λ L s. link-fault L s i r) (λ L s. effect (link-effect L s i r) s) (λ L s. outcome (link-effect L s i r)) (λ L s. refl);
   settle = calling-unchanged settle (λ L s. settle-fault s) settled (λ L s. length (apply L settle s .waiting)) (λ L s. refl);
   sweep = calling-unchanged sweep (λ L s. sweep-fault s) (λ L s. swept s) (λ L s. s .given - rank (s .forward) (s .given)) (λ L s. refl);
-  finished = λ L s out. put-unchanged (finish-fault L s) (finish-words L s) out
+  finished = λ L s out. put-unchanged (finish-fault L s) (finish-words L s) out;
 }

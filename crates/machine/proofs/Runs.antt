@@ -54,48 +54,48 @@ module _ (L : Loaded) (s : State) where
 
   pub land-tests : (k r : ℕ) → land-fault L s k r ≡ None → (k < L .source-kinds) × (r < L .count k) × (s .held (landing k r) ≡ None)
   land-tests k r e =
-    let a = cond-some (waits (s .waiting)) refusal.Waiting _ e in
-    let b = cond-else (ltb k (L .source-kinds) && ltb r (L .count k)) refusal.NotLiving _ (a .1) in
-    let c = cond-some (filled (s .held (landing k r))) refusal.Filled _ (b .1) in
-    let t = b .0 in
-    ((grind (arith, tells)), (grind (arith, tells)), empty-since (s .held (landing k r)) (c .0))
+      let a = cond-some (waits (s .waiting)) refusal.Waiting _ e in
+      let b = cond-else (ltb k (L .source-kinds) && ltb r (L .count k)) refusal.NotLiving _ (a .1) in
+      let c = cond-some (filled (s .held (landing k r))) refusal.Filled _ (b .1) in
+      let t = b .0 in
+      ((grind (arith, tells)), (grind (arith, tells)), empty-since (s .held (landing k r)) (c .0))
 
   pub define-tests : (e l : ℕ) → define-fault L s e l ≡ None → In-use s e × (l < L .links) × (s .kind e ≡ L .from l) × (s .held (cell e l) ≡ None)
   define-tests e l h =
-    let a = cond-some (waits (s .waiting)) refusal.Waiting _ h in
-    let b = cond-else (lives s e && (ltb l (L .links) && eqb (s .kind e) (L .from l))) refusal.NotLiving _ (a .1) in
-    let c = cond-some (filled (s .held (cell e l))) refusal.Filled _ (b .1) in
-    let p = Rattle.std.proofs.shelf.Tests.and-parts (lives s e) (ltb l (L .links) && eqb (s .kind e) (L .from l)) (b .0) in
-    let q = p .1 in
-    (lives-use e (p .0), (grind (arith, tells)), (grind (arith, tells)), empty-since (s .held (cell e l)) (c .0))
+      let a = cond-some (waits (s .waiting)) refusal.Waiting _ h in
+      let b = cond-else (lives s e && (ltb l (L .links) && eqb (s .kind e) (L .from l))) refusal.NotLiving _ (a .1) in
+      let c = cond-some (filled (s .held (cell e l))) refusal.Filled _ (b .1) in
+      let p = Rattle.std.proofs.shelf.Tests.and-parts (lives s e) (ltb l (L .links) && eqb (s .kind e) (L .from l)) (b .0) in
+      let q = p .1 in
+      (lives-use e (p .0), (grind (arith, tells)), (grind (arith, tells)), empty-since (s .held (cell e l)) (c .0))
 
   pub rule-tests : (e i : ℕ) → rule-fault L s e i ≡ None → In-use s e × (i < L .rules) × (s .kind e ≡ L .first i)
   rule-tests e i h =
-    let a = cond-some (waits (s .waiting)) refusal.Waiting _ h in
-    let b = cond-else (lives s e && (ltb i (L .rules) && eqb (s .kind e) (L .first i))) refusal.NotLiving _ (a .1) in
-    let p = Rattle.std.proofs.shelf.Tests.and-parts (lives s e) (ltb i (L .rules) && eqb (s .kind e) (L .first i)) (b .0) in
-    let q = p .1 in
-    (lives-use e (p .0), (grind (arith, tells)), (grind (arith, tells)))
+      let a = cond-some (waits (s .waiting)) refusal.Waiting _ h in
+      let b = cond-else (lives s e && (ltb i (L .rules) && eqb (s .kind e) (L .first i))) refusal.NotLiving _ (a .1) in
+      let p = Rattle.std.proofs.shelf.Tests.and-parts (lives s e) (ltb i (L .rules) && eqb (s .kind e) (L .first i)) (b .0) in
+      let q = p .1 in
+      (lives-use e (p .0), (grind (arith, tells)), (grind (arith, tells)))
 
   pub link-tests : (i r : ℕ) → link-fault L s i r ≡ None → (i < L .source-links) × (r < L .count (L .source-from i))
   link-tests i r h =
-    let a = cond-some (waits (s .waiting)) refusal.Waiting _ h in
-    let b = cond-else (ltb i (L .source-links) && ltb r (L .count (L .source-from i))) refusal.NotLiving _ (a .1) in
-    let q = b .0 in
-    ((grind (arith, tells)), (grind (arith, tells)))
+      let a = cond-some (waits (s .waiting)) refusal.Waiting _ h in
+      let b = cond-else (ltb i (L .source-links) && ltb r (L .count (L .source-from i))) refusal.NotLiving _ (a .1) in
+      let q = b .0 in
+      ((grind (arith, tells)), (grind (arith, tells)))
 
   sweep-tests : sweep-fault s ≡ None → s .waiting ≡ []
   sweep-tests h = none-waits (s .waiting) (cond-some (waits (s .waiting)) refusal.Waiting None h .0)
 
 pub apply-good : (L : Loaded) → Accepted L → (o : Op) (s : State) → Good L s → Good L (apply L o s)
 apply-good L acc (land k r) s g = unless-cases (Good L) (land-fault L s k r) s (born (L .kind-map k) (landing k r) s) g
-  (λ e. let t = land-tests L s k r e in land-good L s g k r (t .0) (t .1) (t .2))
+    (λ e. let t = land-tests L s k r e in land-good L s g k r (t .0) (t .1) (t .2))
 apply-good L acc (define e l) s g = unless-cases (Good L) (define-fault L s e l) s (born (L .to l) (cell e l) s) g
-  (λ h. let t = define-tests L s e l h in define-good L s g e l (t .0) (t .1) (t .2) (t .3))
+    (λ h. let t = define-tests L s e l h in define-good L s g e l (t .0) (t .1) (t .2) (t .3))
 apply-good L acc (check-rule e i) s g = unless-cases (Good L) (rule-fault L s e i) s (effect (rule-effect L s e i) s) g
-  (λ h. let t = rule-tests L s e i h in rule-good L s g acc e i (t .0) (t .1) (t .2))
+    (λ h. let t = rule-tests L s e i h in rule-good L s g acc e i (t .0) (t .1) (t .2))
 apply-good L acc (check-link i r) s g = unless-cases (Good L) (link-fault L s i r) s (effect (link-effect L s i r) s) g
-  (λ h. let t = link-tests L s i r h in link-good L s g acc i r (t .0) (t .1))
+    (λ h. let t = link-tests L s i r h in link-good L s g acc i r (t .0) (t .1))
 apply-good L acc settle s g = unless-cases (Good L) (settle-fault s) s (settled L s) g (λ h. settled-good L s g)
 apply-good L acc sweep s g = unless-cases (Good L) (sweep-fault s) s (swept s) g (λ h. swept-good L s g (sweep-tests L s h))
 
@@ -103,7 +103,7 @@ pub start-good : (L : Loaded) → Good L start
 start-good L = record {
   sound = record { lower = λ x. omega arith; fresh = λ x h. refl; dead = λ x m. elim m [ ]; used = λ t w e. absurd (Rattle.machine.proofs.Fill.some-none w None e refl) };
   read = λ R P. ((λ x. 0), record { counted = λ e h. absurd (omega (arith, h)); agrees = λ t w e. absurd (Rattle.machine.proofs.Fill.some-none w None e refl); forwards = λ e. refl });
-  reached = λ e h. absurd (omega (arith, h))
+  reached = λ e h. absurd (omega (arith, h));
 }
 
 todo-good : (L : Loaded) → Accepted L → (s : State) (budget done : ℕ) → Good L s → (t : Todo) → Good L (carry-out L s budget done t .state)
@@ -131,13 +131,13 @@ all-reached L acc cs = calls-good L acc cs start (start-good L) .reached
 
 apply-kinds : (L : Loaded) → Accepted L → (o : Op) (s : State) → Good L s → Kinds L s → Kinds L (apply L o s)
 apply-kinds L acc (land k r) s g ks = unless-cases (Kinds L) (land-fault L s k r) s (born (L .kind-map k) (landing k r) s) ks
-  (λ e. let t = land-tests L s k r e in born-kinds L s ks (L .kind-map k) (landing k r) (g .sound) (t .0, t .1) tt refl)
+    (λ e. let t = land-tests L s k r e in born-kinds L s ks (L .kind-map k) (landing k r) (g .sound) (t .0, t .1) tt refl)
 apply-kinds L acc (define e l) s g ks = unless-cases (Kinds L) (define-fault L s e l) s (born (L .to l) (cell e l) s) ks
-  (λ h. let t = define-tests L s e l h in born-kinds L s ks (L .to l) (cell e l) (g .sound) (t .0, t .1) (t .2) refl)
+    (λ h. let t = define-tests L s e l h in born-kinds L s ks (L .to l) (cell e l) (g .sound) (t .0, t .1) (t .2) refl)
 apply-kinds L acc (check-rule e i) s g ks = unless-cases (Kinds L) (rule-fault L s e i) s (effect (rule-effect L s e i) s) ks
-  (λ h. let t = rule-tests L s e i h in rule-kinds L s ks acc e i (t .1) (t .2))
+    (λ h. let t = rule-tests L s e i h in rule-kinds L s ks acc e i (t .1) (t .2))
 apply-kinds L acc (check-link i r) s g ks = unless-cases (Kinds L) (link-fault L s i r) s (effect (link-effect L s i r) s) ks
-  (λ h. let t = link-tests L s i r h in link-kinds L s ks acc i r (t .0))
+    (λ h. let t = link-tests L s i r h in link-kinds L s ks acc i r (t .0))
 apply-kinds L acc settle s g ks = unless-cases (Kinds L) (settle-fault s) s (settled L s) ks (λ h. settled-kinds L s ks)
 apply-kinds L acc sweep s g ks = unless-cases (Kinds L) (sweep-fault s) s (swept s) ks (λ h. swept-kinds L s g (sweep-tests L s h) ks)
 

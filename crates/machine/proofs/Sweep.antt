@@ -37,22 +37,22 @@ module _ (f : ℕ → ℕ) where
   pick-cases : (g n : ℕ) → ((f g ≡ g) × (rank f g ≡ n) × (pick f (suc g) n ≡ g)) ⊎ ((f g ≡ g → rank f g ≡ n → ⊥) × (pick f (suc g) n ≡ pick f g n))
   unfolding pick
   pick-cases g n = elim (cases-eq (f g) g) [
-      inl a ↦ elim (cases-eq (rank f g) n) [
-          inl b ↦ (let p = eq-eqb (f g) g a in let q = eq-eqb (rank f g) n b in inl (a, b, (cc)))
-        | inr b ↦ (let p = eq-eqb (f g) g a in let q = ne-eqb (rank f g) n b in inr ((λ _ y. b y), (cc)))
-        ]
-    | inr a ↦ (let p = ne-eqb (f g) g a in inr ((λ x _. a x), (cc)))
+    | inl a ↦ elim (cases-eq (rank f g) n) [
+      | inl b ↦ (let p = eq-eqb (f g) g a in let q = eq-eqb (rank f g) n b in inl (a, b, (cc)))
+      | inr b ↦ (let p = eq-eqb (f g) g a in let q = ne-eqb (rank f g) n b in inr ((λ _ y. b y), (cc)))
     ]
+    | inr a ↦ (let p = ne-eqb (f g) g a in inr ((λ x _. a x), (cc)))
+  ]
 
   pub pick-rank : (g e : ℕ) → f e ≡ e → e < g → pick f g (rank f e) ≡ e
   pick-rank zero e live h = absurd (omega (arith, h))
   pick-rank (suc g) e live h = elim (pick-cases g (rank f e)) [
-      inl q ↦ elim (cases-lt e g) [ inl y ↦ absurd (omega (arith, rank-less e g live y, q .1)) | inr y ↦ q .2 ∙ (omega (arith, y, h)) ]
+    | inl q ↦ elim (cases-lt e g) [ inl y ↦ absurd (omega (arith, rank-less e g live y, q .1)) | inr y ↦ q .2 ∙ (omega (arith, y, h)) ]
     | inr q ↦ elim (cases-eq e g) [
-        inl y ↦ absurd (q .0 (subst (λ x. f x ≡ x) y live) (ap (rank f) (sym y)))
+      | inl y ↦ absurd (q .0 (subst (λ x. f x ≡ x) y live) (ap (rank f) (sym y)))
       | inr y ↦ q .1 ∙ pick-rank g e live (omega (arith, y, h))
-      ]
     ]
+  ]
 
   pub record Picked (g n p : ℕ) : Type 0 where
     pub below : p < g
@@ -63,15 +63,15 @@ module _ (f : ℕ → ℕ) where
   unfolding rank
   pick-good zero n h = absurd (omega (arith, h))
   pick-good (suc g) n h = elim (pick-cases g n) [
-      inl q ↦ subst (Picked (suc g) n) (sym (q .2)) (record { below = omega arith; live = q .0; ranked = q .1 })
+    | inl q ↦ subst (Picked (suc g) n) (sym (q .2)) (record { below = omega arith; live = q .0; ranked = q .1 })
     | inr q ↦ (
         let k : n < rank f g = elim (cases-eq (f g) g) [
-            inl a ↦ (let b = q .0 a in let r = rank-live f g a in omega (arith, b, r, h))
+          | inl a ↦ (let b = q .0 a in let r = rank-live f g a in omega (arith, b, r, h))
           | inr a ↦ (let r = rank-dead f g a in omega (arith, r, h))
-          ] in
+        ] in
         let i = pick-good g n k in
         subst (Picked (suc g) n) (sym (q .1)) (record { below = omega (arith, i .below); live = i .live; ranked = i .ranked }))
-    ]
+  ]
 
 pub renamed-held : (f : ℕ → ℕ) (o : Option ℕ) (y : ℕ) → renamed f o ≡ Some y → (w : ℕ) × (o ≡ Some w) × (y ≡ f w)
 renamed-held f None y e = absurd (some-none y None e refl)
@@ -106,14 +106,14 @@ module _ (L : Loaded) (s : State) (g : Good L s) (none : s .waiting ≡ []) wher
   -- what a slot held before
   pub cell-was : (n l y : ℕ) → swept-held s (cell n l) ≡ Some y → (n < G) × ((w : ℕ) × (s .held (cell (pick f (s .given) n) l) ≡ Some w) × (y ≡ rank f w))
   cell-was n l y e =
-    let a = when-some (ltb n G) (renamed (rank f) (s .held (cell (pick f (s .given) n) l))) y e in
-    (ltb-true n G (a .0), renamed-held (rank f) (s .held (cell (pick f (s .given) n) l)) y (a .1))
+      let a = when-some (ltb n G) (renamed (rank f) (s .held (cell (pick f (s .given) n) l))) y e in
+      (ltb-true n G (a .0), renamed-held (rank f) (s .held (cell (pick f (s .given) n) l)) y (a .1))
 
   -- what a cell holds now
   cell-now : (e l w : ℕ) → s .held (cell e l) ≡ Some w → swept-held s (cell (rank f e) l) ≡ Some (rank f w)
   cell-now e l w q =
-    let u = g .sound .used (cell e l) w q .1 .0 in
-    cond-true (ltb (rank f e) G) (renamed (rank f) (s .held (cell (pick f (s .given) (rank f e)) l))) None (lt-ltb (rank f e) G (use-rank e u))
+      let u = g .sound .used (cell e l) w q .1 .0 in
+      cond-true (ltb (rank f e) G) (renamed (rank f) (s .held (cell (pick f (s .given) (rank f e)) l))) None (lt-ltb (rank f e) G (use-rank e u))
       ∙ ap (renamed (rank f)) (ap (λ x. s .held (cell x l)) (use-pick e u) ∙ q)
 
   now-use : (x : ℕ) → x < G → In-use (swept s) x
@@ -121,15 +121,15 @@ module _ (L : Loaded) (s : State) (g : Good L s) (none : s .waiting ≡ []) wher
 
   swept-used : (t : Slot) (y : ℕ) → swept s .held t ≡ Some y → In-use (swept s) y × Owner L (swept s) t
   swept-used (cell n l) y e =
-    let a = cell-was n l y e in
-    let w = a .1 .0 in
-    let u = g .sound .used (cell (pick f (s .given) n) l) w (a .1 .1) in
-    (now-use y (subst (λ x. x < G) (sym (a .1 .2)) (use-rank w (u .0))), (now-use n (a .0), u .1 .1))
+      let a = cell-was n l y e in
+      let w = a .1 .0 in
+      let u = g .sound .used (cell (pick f (s .given) n) l) w (a .1 .1) in
+      (now-use y (subst (λ x. x < G) (sym (a .1 .2)) (use-rank w (u .0))), (now-use n (a .0), u .1 .1))
   swept-used (landing k r) y e =
-    let a = renamed-held (rank f) (s .held (landing k r)) y e in
-    let w = a .0 in
-    let u = g .sound .used (landing k r) w (a .1) in
-    (now-use y (subst (λ x. x < G) (sym (a .2)) (use-rank w (u .0))), u .1)
+      let a = renamed-held (rank f) (s .held (landing k r)) y e in
+      let w = a .0 in
+      let u = g .sound .used (landing k r) w (a .1) in
+      (now-use y (subst (λ x. x < G) (sym (a .2)) (use-rank w (u .0))), u .1)
 
   swept-sound : Sound L (swept s)
   swept-sound = record { lower = λ x. omega arith; fresh = λ x h. refl; dead = λ x m. elim m [ ]; used = swept-used }
@@ -137,22 +137,25 @@ module _ (L : Loaded) (s : State) (g : Good L s) (none : s .waiting ≡ []) wher
   module _ (R : Receiver L) (P : Placing L R) (ρ : ℕ → ℕ) (d : Reading L R P s ρ) where
     swept-agrees : (t : Slot) (y : ℕ) → swept s .held t ≡ Some y → ρ (pick f (s .given) y) ≡ worth (R .lead) (P .at) (λ n. ρ (pick f (s .given) n)) t
     swept-agrees (cell n l) y e =
-      let a = cell-was n l y e in
-      let w = a .1 .0 in
-      let u = g .sound .used (cell (pick f (s .given) n) l) w (a .1 .1) in
-      ap ρ (ap (pick f (s .given)) (a .1 .2) ∙ use-pick w (u .0)) ∙ d .agrees (cell (pick f (s .given) n) l) w (a .1 .1)
+        let a = cell-was n l y e in
+        let w = a .1 .0 in
+        let u = g .sound .used (cell (pick f (s .given) n) l) w (a .1 .1) in
+        ap ρ (ap (pick f (s .given)) (a .1 .2) ∙ use-pick w (u .0)) ∙ d .agrees (cell (pick f (s .given) n) l) w (a .1 .1)
     swept-agrees (landing k r) y e =
-      let a = renamed-held (rank f) (s .held (landing k r)) y e in
-      let w = a .0 in
-      let u = g .sound .used (landing k r) w (a .1) in
-      ap ρ (ap (pick f (s .given)) (a .2) ∙ use-pick w (u .0)) ∙ d .agrees (landing k r) w (a .1)
+        let a = renamed-held (rank f) (s .held (landing k r)) y e in
+        let w = a .0 in
+        let u = g .sound .used (landing k r) w (a .1) in
+        ap ρ (ap (pick f (s .given)) (a .2) ∙ use-pick w (u .0)) ∙ d .agrees (landing k r) w (a .1)
 
     swept-read : (σ : ℕ → ℕ) × Reading L R P (swept s) σ
-    swept-read = ((λ n. ρ (pick f (s .given) n)), record {
-      counted = λ n h. subst (λ k. R .has k (ρ (pick f (s .given) n)) ≡ true) (sym (cond-true (ltb n G) (s .kind (pick f (s .given) n)) 0 (lt-ltb n G h))) (d .counted (pick f (s .given) n) (picked n h .below));
-      agrees = swept-agrees;
-      forwards = λ e. refl
-    })
+    swept-read = (
+      (λ n. ρ (pick f (s .given) n)),
+      record {
+        counted = λ n h. subst (λ k. R .has k (ρ (pick f (s .given) n)) ≡ true) (sym (cond-true (ltb n G) (s .kind (pick f (s .given) n)) 0 (lt-ltb n G h))) (d .counted (pick f (s .given) n) (picked n h .below));
+        agrees = swept-agrees;
+        forwards = λ e. refl;
+      },
+    )
 
   Old : ℕ → Type 0
   Old x = Reach (swept s) (rank f (end s x))
@@ -167,18 +170,18 @@ module _ (L : Loaded) (s : State) (g : Good L s) (none : s .waiting ≡ []) wher
 
   old-fits : (t : Slot) (w : ℕ) → s .held t ≡ Some w → Before Old t → Old w
   old-fits (cell e l) w q b =
-    let u = g .sound .used (cell e l) w q in
-    old-to w (use-lives w (u .0)) (closed-reach (swept s) .fits (cell (rank f e) l) (rank f w) (cell-now e l w q) (old-from e (use-lives e (u .1 .0)) b))
+      let u = g .sound .used (cell e l) w q in
+      old-to w (use-lives w (u .0)) (closed-reach (swept s) .fits (cell (rank f e) l) (rank f w) (cell-now e l w q) (old-from e (use-lives e (u .1 .0)) b))
   old-fits (landing k r) w q b =
-    let u = g .sound .used (landing k r) w q in
-    old-to w (use-lives w (u .0)) (closed-reach (swept s) .fits (landing k r) (rank f w) (ap (renamed (rank f)) q) tt)
+      let u = g .sound .used (landing k r) w q in
+      old-to w (use-lives w (u .0)) (closed-reach (swept s) .fits (landing k r) (rank f w) (ap (renamed (rank f)) q) tt)
 
   old-closed : Closed Old s
   unfolding Old
   old-closed = record {
     fits = old-fits;
     goes = λ x q. subst (λ y. Reach (swept s) (rank f y)) (sym (end-forward f (g .sound .lower) x)) q;
-    comes = λ x q. subst (λ y. Reach (swept s) (rank f y)) (end-forward f (g .sound .lower) x) q
+    comes = λ x q. subst (λ y. Reach (swept s) (rank f y)) (end-forward f (g .sound .lower) x) q;
   }
 
   pub swept-good : Good L (swept s)
@@ -186,21 +189,21 @@ module _ (L : Loaded) (s : State) (g : Good L s) (none : s .waiting ≡ []) wher
     sound = swept-sound;
     read = λ R P. let r = g .read R P in swept-read R P (r .0) (r .1);
     reached = λ n h.
-      let p = picked n h in
-      subst (Reach (swept s)) (p .ranked) (old-from (pick f (s .given) n) (p .live) (closed-all old-closed (g .reached (pick f (s .given) n) (p .below))))
+        let p = picked n h in
+        subst (Reach (swept s)) (p .ranked) (old-from (pick f (s .given) n) (p .live) (closed-all old-closed (g .reached (pick f (s .given) n) (p .below))));
   }
 
   swept-found : (t : Slot) (w : ℕ) → s .held t ≡ Some w → Found (swept s) (λ x. rank f (end s x)) t w
   swept-found (cell e l) w q =
-    let u = g .sound .used (cell e l) w q in
-    (cell (rank f e) l, rank f w, cell-now e l w q, ap (λ x. cell (end (swept s) (rank f x)) l) (sym (use-end e (u .1 .0))), ap (λ x. end (swept s) (rank f x)) (sym (use-end w (u .0))))
+      let u = g .sound .used (cell e l) w q in
+      (cell (rank f e) l, rank f w, cell-now e l w q, ap (λ x. cell (end (swept s) (rank f x)) l) (sym (use-end e (u .1 .0))), ap (λ x. end (swept s) (rank f x)) (sym (use-end w (u .0))))
   swept-found (landing k r) w q =
-    let u = g .sound .used (landing k r) w q in
-    (landing k r, rank f w, ap (renamed (rank f)) q, refl, ap (λ x. end (swept s) (rank f x)) (sym (use-end w (u .0))))
+      let u = g .sound .used (landing k r) w q in
+      (landing k r, rank f w, ap (renamed (rank f)) q, refl, ap (λ x. end (swept s) (rank f x)) (sym (use-end w (u .0))))
 
   pub swept-kept : Kept s (swept s) (λ x. rank f (end s x))
   swept-kept = record {
     numbered = λ x h. use-rank (end s x) (end-in-use L s (g .sound) x h);
     together = λ x y q. ap (λ a. end (swept s) (rank f a)) q;
-    found = swept-found
+    found = swept-found;
   }

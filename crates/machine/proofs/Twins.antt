@@ -43,14 +43,14 @@ module _ (L : Loaded) (acc : Accepted L) (s z : State) (a : Whole L s) (b : Whol
 
   pub carry-held : (t : Slot) (w : ℕ) → s .held t ≡ Some w → z .held (image carry t) ≡ Some (carry w)
   carry-held (cell e l) w h =
-    let o = a .good .sound .used (cell e l) w h .1 in
-    let c = carry-living e (o .0 .below) in
-    let y = b .complete .defined (carry e) l (c .0 .0) (c .0 .1) (o .1) (c .1 ∙ a .kinds .fit (cell e l) w h .1) in
-    y .1 ∙ ap Some (sym (carry-reading .agrees (cell e l) w h ∙ ap content (y .1)))
+      let o = a .good .sound .used (cell e l) w h .1 in
+      let c = carry-living e (o .0 .below) in
+      let y = b .complete .defined (carry e) l (c .0 .0) (c .0 .1) (o .1) (c .1 ∙ a .kinds .fit (cell e l) w h .1) in
+      y .1 ∙ ap Some (sym (carry-reading .agrees (cell e l) w h ∙ ap content (y .1)))
   carry-held (landing k r) w h =
-    let o = a .good .sound .used (landing k r) w h .1 in
-    let y = b .complete .landed k r (o .0) (o .1) in
-    y .1 ∙ ap Some (sym (carry-reading .agrees (landing k r) w h ∙ ap content (y .1)))
+      let o = a .good .sound .used (landing k r) w h .1 in
+      let y = b .complete .landed k r (o .0) (o .1) in
+      y .1 ∙ ap Some (sym (carry-reading .agrees (landing k r) w h ∙ ap content (y .1)))
 
 abbrev pub Kept : State → Slot → Type 0
 Kept s (cell e l) = Living s e
@@ -67,11 +67,11 @@ module _ (L : Loaded) (acc : Accepted L) (s z : State) (a : Whole L s) (b : Whol
   round : Reading L (own L acc s a) (own-placing L acc s a) s (λ e. σ (ρ e))
   round = record {
     counted = λ e h.
-      let p = carry-living L acc s z a b e h in
-      let q = carry-living L acc z s b a (ρ e) (p .0 .0) in
-      parts-has s (s .kind e) (σ (ρ e)) (q .0) (q .1 ∙ p .1);
+        let p = carry-living L acc s z a b e h in
+        let q = carry-living L acc z s b a (ρ e) (p .0 .0) in
+        parts-has s (s .kind e) (σ (ρ e)) (q .0) (q .1 ∙ p .1);
     agrees = agree;
-    forwards = λ e. ap σ (carry-reading L acc s z a b .forwards e)
+    forwards = λ e. ap σ (carry-reading L acc s z a b .forwards e);
   }
     where
       agree : (t : Slot) (w : ℕ) → s .held t ≡ Some w → σ (ρ w) ≡ worth (own L acc s a .lead) (own-placing L acc s a .at) (λ e. σ (ρ e)) t
@@ -87,18 +87,20 @@ module _ (L : Loaded) (acc : Accepted L) (s z : State) (a : Whole L s) (b : Whol
       fixed : (t : Slot) → Kept s t → image σ (image ρ t) ≡ t
       fixed (cell e l) k = ap (λ y. cell y l) (round-is e k)
       fixed (landing i r) k = refl
+
       empty : (o : Option ℕ) → z .held (image ρ t) ≡ o → s .held t ≡ None → o ≡ None
       empty None q n = refl
       empty (Some w) q n = absurd (some-none (σ w) (s .held t) (ap (s .held) (sym (fixed t k)) ∙ carry-held L acc z s b a (image ρ t) w q) n)
+
       go : (o : Option ℕ) → s .held t ≡ o → z .held (image ρ t) ≡ renamed ρ o
       go None q = empty (z .held (image ρ t)) refl q
       go (Some w) q = carry-held L acc s z a b t w q
 
   pub eqb-same : (x y : ℕ) → Living s x → Living s y → eqb (ρ x) (ρ y) ≡ eqb x y
   eqb-same x y hx hy = elim (cases-eq x y) [
-      inl e ↦ eq-eqb (ρ x) (ρ y) (ap ρ e) ∙ sym (eq-eqb x y e)
+    | inl e ↦ eq-eqb (ρ x) (ρ y) (ap ρ e) ∙ sym (eq-eqb x y e)
     | inr e ↦ ne-eqb (ρ x) (ρ y) (λ q. e (sym (round-is x hx) ∙ (ap σ q ∙ round-is y hy))) ∙ sym (ne-eqb x y e)
-    ]
+  ]
 
 -- lists of living entries
 abbrev pub Each : (ℕ → Type 0) → List ℕ → Type 0
@@ -135,9 +137,9 @@ module _ (L : Loaded) (s : State) (a : Whole L s) where
   grown-more : (n : ℕ) → s .given ≤ n → grown L s (suc n) ≡ grown L s n
   unfolding grown
   grown-more n h =
-    let xs = grown L s n in
-    let short = fine-short (s .given) (Living s) xs (λ y q. q .0) (grown-fine L s (a .good) (a .complete .quiet) n) in
-    ap (λ o. on o xs (λ e. of-cells s e (L .links) xs)) (nth-past xs n (omega (arith, short, h)))
+      let xs = grown L s n in
+      let short = fine-short (s .given) (Living s) xs (λ y q. q .0) (grown-fine L s (a .good) (a .complete .quiet) n) in
+      ap (λ o. on o xs (λ e. of-cells s e (L .links) xs)) (nth-past xs n (omega (arith, short, h)))
 
   pub grown-end : (n : ℕ) → s .given ≤ n → grown L s n ≡ sequence L s
   grown-end zero h = let e : 0 ≡ s .given = omega (arith, h) in ap (grown L s) e

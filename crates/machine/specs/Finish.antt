@@ -64,7 +64,8 @@ abbrev pub register-file : Loaded → (ℕ → ℕ) → (ℕ → ℕ → ℕ) �
 register-file L count lead at = record {
   counts = upto count (L .target-kinds);
   links = upto (λ l. record { from = L .from l; to = L .to l; leads = upto (lead l) (count (L .from l)) }) (L .links);
-  landings = upto (λ k. record { from = k; to = L .kind-map k; leads = upto (at k) (L .count k) }) (L .source-kinds) }
+  landings = upto (λ k. record { from = k; to = L .kind-map k; leads = upto (at k) (L .count k) }) (L .source-kinds);
+}
 
 abbrev pub finished-file : Loaded → State → File
 finished-file L s = register-file L (count-of L s) (lead-of L s) (at-of L s)
@@ -74,9 +75,23 @@ finish-words L s = layout (finished-file L s)
 
 abbrev pub with-capacity : ℕ → Loaded → Loaded
 with-capacity c L = record {
-  target-kinds = L .target-kinds; links = L .links; from = L .from; to = L .to; rules = L .rules; first = L .first; left = L .left; right = L .right;
-  source-kinds = L .source-kinds; source-links = L .source-links; source-from = L .source-from; source-to = L .source-to; kind-map = L .kind-map; link-map = L .link-map;
-  count = L .count; lead = L .lead; capacity = c
+  target-kinds = L .target-kinds;
+  links = L .links;
+  from = L .from;
+  to = L .to;
+  rules = L .rules;
+  first = L .first;
+  left = L .left;
+  right = L .right;
+  source-kinds = L .source-kinds;
+  source-links = L .source-links;
+  source-from = L .source-from;
+  source-to = L .source-to;
+  kind-map = L .kind-map;
+  link-map = L .link-map;
+  count = L .count;
+  lead = L .lead;
+  capacity = c;
 }
 
 -- Two tables are alike: the living entries of one stand for those of the other, one to one, with their kinds, landings and cells.
@@ -87,8 +102,8 @@ pub record Alike (s z : State) (f g : ℕ → ℕ) : Type 0 where
 
 abbrev pub One-table : Type 0
 One-table = (L : Loaded) → Accepted L → (b c : ℕ) (cs ds : List Call) →
-  Complete (with-capacity b L) (calls (with-capacity b L) cs start) → Complete (with-capacity c L) (calls (with-capacity c L) ds start) →
-  (f : ℕ → ℕ) × (g : ℕ → ℕ) × Alike (calls (with-capacity b L) cs start) (calls (with-capacity c L) ds start) f g × Alike (calls (with-capacity c L) ds start) (calls (with-capacity b L) cs start) g f
+    Complete (with-capacity b L) (calls (with-capacity b L) cs start) → Complete (with-capacity c L) (calls (with-capacity c L) ds start) →
+    (f : ℕ → ℕ) × (g : ℕ → ℕ) × Alike (calls (with-capacity b L) cs start) (calls (with-capacity c L) ds start) f g × Alike (calls (with-capacity c L) ds start) (calls (with-capacity b L) cs start) g f
 
 -- A count fits where the capacity does, and there are no records of other kinds than the target's.
 pub record Bounds (L : Loaded) (s : State) : Type 0 where

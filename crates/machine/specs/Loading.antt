@@ -34,9 +34,9 @@ other-ends a (Some e) = not (eqb (e .0) (a .from) && eqb (e .1) (a .to))
 -- the source has other kinds, links or ends than the source schema
 abbrev pub other-shape : Problem → Meaning → Bool
 other-shape p m =
-  not (eqb (m .kinds) (p .source-kinds))
-  || (not (eqb (m .links) (length (p .source-links)))
-  || some-below (λ i. other-ends (source-link p i) (m .ends i)) (length (p .source-links)))
+    not (eqb (m .kinds) (p .source-kinds))
+    || (not (eqb (m .links) (length (p .source-links)))
+    || some-below (λ i. other-ends (source-link p i) (m .ends i)) (length (p .source-links)))
 
 -- the source records in all
 abbrev pub source-records : Problem → Meaning → ℕ
@@ -77,7 +77,8 @@ taken p m capacity = record {
   link-map = λ i. getD (p .link-map) i [];
   count = m .count;
   lead = lead m;
-  capacity = capacity }
+  capacity = capacity;
+}
 
 abbrev pub with-problem : Result Problem SchemaFault → (Problem → Result Loaded LoadFault) → Result Loaded LoadFault
 with-problem (Ok p) f = f p
@@ -90,10 +91,10 @@ unless-strays None r = r
 -- the tests behind the problem's own, in their order
 abbrev pub load-problem : ℕ → List ℕ → Meaning → Problem → Result Loaded LoadFault
 load-problem work ws m p =
-  cond (other-shape p m) (Err fault.Shape)
+    cond (other-shape p m) (Err fault.Shape)
     (cond (ltb 4095 (source-records p m)) (Err fault.Large)
-      (unless-strays (lowest (link-strays p m) (length (p .source-links)))
-        (cond (ltb work (needed ws p m)) (Err fault.Memory) (Ok (taken p m (capacity-of work ws p m))))))
+    (unless-strays (lowest (link-strays p m) (length (p .source-links)))
+    (cond (ltb work (needed ws p m)) (Err fault.Memory) (Ok (taken p m (capacity-of work ws p m))))))
 
 abbrev pub load : ℕ → List ℕ → Meaning → Result Loaded LoadFault
 load work ws m = with-problem (read ws) (load-problem work ws m)

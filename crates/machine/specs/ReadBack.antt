@@ -23,7 +23,8 @@ shown L s = record {
   links = L .links;
   ends = λ l. cond (ltb l (L .links)) (Some (L .from l, L .to l)) None;
   count = count-of L s;
-  follow = λ l n. cond (ltb l (L .links)) (cond (ltb n (count-of L s (L .from l))) (renamed (number L s) (s .held (cell (entry L s (L .from l) n) l))) None) None }
+  follow = λ l n. cond (ltb l (L .links)) (cond (ltb n (count-of L s (L .from l))) (renamed (number L s) (s .held (cell (entry L s (L .from l) n) l))) None) None;
+}
 
 pub record Reads-back (L : Loaded) (s : State) : Type 0 where
   pub accepted : read (finish-words L s) ≡ Ok (finished-file L s)
@@ -34,4 +35,4 @@ pub record Reads-back (L : Loaded) (s : State) : Type 0 where
 -- After every accepted load and every list of calls, what finish writes is read back as the register that the table shows.
 abbrev pub Finish-reads-back : Type 0
 Finish-reads-back = (work : ℕ) (ws : List ℕ) (m : Meaning) (L : Loaded) → load work ws m ≡ Ok L → (cs : List Call) →
-  finish-fault L (calls L cs start) ≡ None → Reads-back L (calls L cs start)
+    finish-fault L (calls L cs start) ≡ None → Reads-back L (calls L cs start)

@@ -60,5 +60,5 @@ pub record Reading (L : Loaded) (R : Receiver L) (P : Placing L R) (s : State) (
 abbrev pub One-reading : Loaded → State → Type 0
 One-reading L s = (R : Receiver L) (P : Placing L R) → record {
   some : (ρ : ℕ → ℕ) × Reading L R P s ρ;
-  only : (ρ σ : ℕ → ℕ) → Reading L R P s ρ → Reading L R P s σ → (e : ℕ) → e < s .given → ρ e ≡ σ e
+  only : (ρ σ : ℕ → ℕ) → Reading L R P s ρ → Reading L R P s σ → (e : ℕ) → e < s .given → ρ e ≡ σ e;
 }

@@ -30,5 +30,5 @@ swept s = record {
   kind = λ n. cond (ltb n (rank (s .forward) (s .given))) (s .kind (pick (s .forward) (s .given) n)) 0;
   forward = λ x. x;
   held = swept-held s;
-  waiting = []
+  waiting = [];
 }

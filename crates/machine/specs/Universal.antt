@@ -20,7 +20,7 @@ pub record Maps (L : Loaded) (R : Receiver L) (P : Placing L R) (S : Receiver L)
 abbrev pub Universal : (L : Loaded) (R : Receiver L) → Placing L R → Type 0
 Universal L R P = (S : Receiver L) (Q : Placing L S) → record {
   some : (h : ℕ → ℕ → ℕ) × Maps L R P S Q h;
-  only : (g h : ℕ → ℕ → ℕ) → Maps L R P S Q g → Maps L R P S Q h → (k x : ℕ) → x < R .count k → g k x ≡ h k x
+  only : (g h : ℕ → ℕ → ℕ) → Maps L R P S Q g → Maps L R P S Q h → (k x : ℕ) → x < R .count k → g k x ≡ h k x;
 }
 
 -- What the numbering gives is a receiver with a placing, universal, and finish writes its words.

@@ -76,7 +76,8 @@ told-of L p = record {
   landings = by-rows (λ k r. p .state .held (landing k r)) (L .source-kinds) (L .count);
   cells = by-rows (λ e l. p .state .held (cell e l)) (p .state .given) (λ e. L .links);
   define = define-fault L (p .state) 0 0;
-  finish = let r = finish L (p .state) (replicate 16 0) in then (r .0) (λ n. Ok (take n (r .1))) }
+  finish = let r = finish L (p .state) (replicate 16 0) in then (r .0) (λ n. Ok (take n (r .1)));
+}
 
 abbrev pub told-after : Asked → Result Loaded LoadFault → Told
 told-after asked (Err f) = refused (load-fault f)
@@ -109,108 +110,210 @@ two-to-one = record { counts = 2 ∷ 1 ∷ []; links = record { from = 0; to = 1
 
 unfoldable pub cases : List Case
 cases =
-  record {
-    name = "a wheel of six with the step two, onto no links";
-    words = 0x1000_0001 ∷ 0x2000_0000 ∷ 0x1000_0101 ∷ 0x5000_0000 ∷ 0x6000_0000 ∷ 0x7000_0005 ∷ [];
-    source = wheel 6 (2 ∷ []); work = 45; asked = works 20;
-    expected = ran (record {
-      capacity = 9; ended = Some complete; steps = 6; given = 2; living = 2; waiting = 0;
-      landings = Some 0 ∷ Some 1 ∷ Some 0 ∷ Some 1 ∷ Some 0 ∷ Some 1 ∷ []; cells = [];
-      define = Some refusal.NotLiving;
-      finish = Ok (0x8000_0001 ∷ 0x9000_0002 ∷ 0xC006_0000 ∷ 0xB000_0000 ∷ 0xB000_0001 ∷ 0xB000_0000 ∷ 0xB000_0001 ∷ 0xB000_0000 ∷ 0xB000_0001 ∷ 0x7000_0009 ∷ []) }) }
-  ∷ record {
-    name = "three steps are one step";
-    words = thrice-once;
-    source = wheel 1 []; work = 47; asked = works 20;
-    expected = ran (record {
-      capacity = 9; ended = Some complete; steps = 4; given = 3; living = 3; waiting = 0;
-      landings = Some 0 ∷ []; cells = Some 1 ∷ Some 2 ∷ Some 1 ∷ [];
-      define = Some refusal.Filled;
-      finish = Ok (0x8000_0001 ∷ 0x9000_0003 ∷ 0xA000_0000 ∷ 0xB000_0001 ∷ 0xB000_0002 ∷ 0xB000_0001 ∷ 0xC001_0000 ∷ 0xB000_0000 ∷ 0x7000_0008 ∷ []) }) }
-  ∷ record {
-    name = "three steps are one step, and no records";
-    words = thrice-once;
-    source = wheel 0 []; work = 47; asked = works 20;
-    expected = ran (record {
-      capacity = 9; ended = Some complete; steps = 0; given = 0; living = 0; waiting = 0;
-      landings = []; cells = [];
-      define = Some refusal.NotLiving;
-      finish = Ok (0x8000_0001 ∷ 0x9000_0000 ∷ 0xA000_0000 ∷ 0xC000_0000 ∷ 0x7000_0004 ∷ []) }) }
-  ∷ record {
-    name = "no rules, in fourteen words: a full table, whose filled cell is refused as filled";
-    words = with-rules [] 0x7000_0004;
-    source = wheel 1 []; work = 14; asked = works 20;
-    expected = ran (record {
-      capacity = 2; ended = Some full; steps = 2; given = 2; living = 2; waiting = 0;
-      landings = Some 0 ∷ []; cells = Some 1 ∷ None ∷ [];
-      define = Some refusal.Filled;
-      finish = Err refusal.Incomplete }) }
-  ∷ record {
-    name = "no rules, in thirteen words";
-    words = with-rules [] 0x7000_0004;
-    source = wheel 1 []; work = 13; asked = works 20;
-    expected = ran (record {
-      capacity = 1; ended = Some full; steps = 1; given = 1; living = 1; waiting = 0;
-      landings = Some 0 ∷ []; cells = None ∷ [];
-      define = Some refusal.Full;
-      finish = Err refusal.Incomplete }) }
-  ∷ record {
-    name = "two steps and three steps are none: three steps into the shift nothing waits";
-    words = twice-and-thrice;
-    source = wheel 1 []; work = 49; asked = works 3;
-    expected = ran (record {
-      capacity = 9; ended = Some spent; steps = 3; given = 2; living = 2; waiting = 0;
-      landings = Some 0 ∷ []; cells = Some 1 ∷ Some 0 ∷ [];
-      define = Some refusal.Filled;
-      finish = Err refusal.Incomplete }) }
-  ∷ record {
-    name = "two steps and three steps are none: the fourth step of the shift merges";
-    words = twice-and-thrice;
-    source = wheel 1 []; work = 49; asked = works 4;
-    expected = ran (record {
-      capacity = 9; ended = Some spent; steps = 4; given = 2; living = 1; waiting = 1;
-      landings = Some 0 ∷ []; cells = Some 1 ∷ Some 0 ∷ [];
-      define = Some refusal.Waiting;
-      finish = Err refusal.Waiting }) }
-  ∷ record {
-    name = "two steps and three steps are none";
-    words = twice-and-thrice;
-    source = wheel 1 []; work = 49; asked = works 20;
-    expected = ran (record {
-      capacity = 9; ended = Some complete; steps = 5; given = 2; living = 1; waiting = 0;
-      landings = Some 0 ∷ []; cells = Some 0 ∷ None ∷ [];
-      define = Some refusal.Filled;
-      finish = Ok (0x8000_0001 ∷ 0x9000_0001 ∷ 0xA000_0000 ∷ 0xB000_0000 ∷ 0xC001_0000 ∷ 0xB000_0000 ∷ 0x7000_0006 ∷ []) }) }
-  ∷ record {
-    name = "two kinds with a link between them, onto one kind by an empty path";
-    words = 0x1000_0002 ∷ 0x2000_0001 ∷ 0x1000_0101 ∷ 0x5000_0000 ∷ 0x5000_0100 ∷ 0x6000_0000 ∷ 0x7000_0006 ∷ [];
-    source = answers two-to-one; work = 39; asked = works 20;
-    expected = ran (record {
-      capacity = 9; ended = Some complete; steps = 3; given = 1; living = 1; waiting = 0;
-      landings = Some 0 ∷ Some 0 ∷ Some 0 ∷ []; cells = [];
-      define = Some refusal.NotLiving;
-      finish = Ok (0x8000_0001 ∷ 0x9000_0001 ∷ 0xC002_0000 ∷ 0xB000_0000 ∷ 0xB000_0000 ∷ 0xC001_0100 ∷ 0xB000_0000 ∷ 0x7000_0007 ∷ []) }) }
-  ∷ record {
-    name = "a path of sixty-four steps";
-    words = with-rules (0x3000_4000 ∷ steps 64) 0x7000_0045;
-    source = wheel 1 []; work = 107; asked = loads;
-    expected = accepted 9 }
-  ∷ record {
-    name = "a path of sixty-five steps";
-    words = with-rules (0x3000_4100 ∷ steps 65) 0x7000_0046;
-    source = wheel 1 []; work = 107; asked = loads;
-    expected = refused (fault-of refusal.Limit 3) }
-  ∷ record {
-    name = "4,095 records";
-    words = with-rules [] 0x7000_0004;
-    source = wheel 4095 []; work = 4136; asked = loads;
-    expected = accepted 9 }
-  ∷ record {
-    name = "4,096 records";
-    words = with-rules [] 0x7000_0004;
-    source = wheel 4096 []; work = 4137; asked = loads;
-    expected = refused (fault-of refusal.Large 0) }
-  ∷ []
+    record {
+      name = "a wheel of six with the step two, onto no links";
+      words = 0x1000_0001 ∷ 0x2000_0000 ∷ 0x1000_0101 ∷ 0x5000_0000 ∷ 0x6000_0000 ∷ 0x7000_0005 ∷ [];
+      source = wheel 6 (2 ∷ []);
+      work = 45;
+      asked = works 20;
+      expected = ran (record {
+        capacity = 9;
+        ended = Some complete;
+        steps = 6;
+        given = 2;
+        living = 2;
+        waiting = 0;
+        landings = Some 0 ∷ Some 1 ∷ Some 0 ∷ Some 1 ∷ Some 0 ∷ Some 1 ∷ [];
+        cells = [];
+        define = Some refusal.NotLiving;
+        finish = Ok (0x8000_0001 ∷ 0x9000_0002 ∷ 0xC006_0000 ∷ 0xB000_0000 ∷ 0xB000_0001 ∷ 0xB000_0000 ∷ 0xB000_0001 ∷ 0xB000_0000 ∷ 0xB000_0001 ∷ 0x7000_0009 ∷ []);
+      });
+    }
+    ∷ record {
+      name = "three steps are one step";
+      words = thrice-once;
+      source = wheel 1 [];
+      work = 47;
+      asked = works 20;
+      expected = ran (record {
+        capacity = 9;
+        ended = Some complete;
+        steps = 4;
+        given = 3;
+        living = 3;
+        waiting = 0;
+        landings = Some 0 ∷ [];
+        cells = Some 1 ∷ Some 2 ∷ Some 1 ∷ [];
+        define = Some refusal.Filled;
+        finish = Ok (0x8000_0001 ∷ 0x9000_0003 ∷ 0xA000_0000 ∷ 0xB000_0001 ∷ 0xB000_0002 ∷ 0xB000_0001 ∷ 0xC001_0000 ∷ 0xB000_0000 ∷ 0x7000_0008 ∷ []);
+      });
+    }
+    ∷ record {
+      name = "three steps are one step, and no records";
+      words = thrice-once;
+      source = wheel 0 [];
+      work = 47;
+      asked = works 20;
+      expected = ran (record {
+        capacity = 9;
+        ended = Some complete;
+        steps = 0;
+        given = 0;
+        living = 0;
+        waiting = 0;
+        landings = [];
+        cells = [];
+        define = Some refusal.NotLiving;
+        finish = Ok (0x8000_0001 ∷ 0x9000_0000 ∷ 0xA000_0000 ∷ 0xC000_0000 ∷ 0x7000_0004 ∷ []);
+      });
+    }
+    ∷ record {
+      name = "no rules, in fourteen words: a full table, whose filled cell is refused as filled";
+      words = with-rules [] 0x7000_0004;
+      source = wheel 1 [];
+      work = 14;
+      asked = works 20;
+      expected = ran (record {
+        capacity = 2;
+        ended = Some full;
+        steps = 2;
+        given = 2;
+        living = 2;
+        waiting = 0;
+        landings = Some 0 ∷ [];
+        cells = Some 1 ∷ None ∷ [];
+        define = Some refusal.Filled;
+        finish = Err refusal.Incomplete;
+      });
+    }
+    ∷ record {
+      name = "no rules, in thirteen words";
+      words = with-rules [] 0x7000_0004;
+      source = wheel 1 [];
+      work = 13;
+      asked = works 20;
+      expected = ran (record {
+        capacity = 1;
+        ended = Some full;
+        steps = 1;
+        given = 1;
+        living = 1;
+        waiting = 0;
+        landings = Some 0 ∷ [];
+        cells = None ∷ [];
+        define = Some refusal.Full;
+        finish = Err refusal.Incomplete;
+      });
+    }
+    ∷ record {
+      name = "two steps and three steps are none: three steps into the shift nothing waits";
+      words = twice-and-thrice;
+      source = wheel 1 [];
+      work = 49;
+      asked = works 3;
+      expected = ran (record {
+        capacity = 9;
+        ended = Some spent;
+        steps = 3;
+        given = 2;
+        living = 2;
+        waiting = 0;
+        landings = Some 0 ∷ [];
+        cells = Some 1 ∷ Some 0 ∷ [];
+        define = Some refusal.Filled;
+        finish = Err refusal.Incomplete;
+      });
+    }
+    ∷ record {
+      name = "two steps and three steps are none: the fourth step of the shift merges";
+      words = twice-and-thrice;
+      source = wheel 1 [];
+      work = 49;
+      asked = works 4;
+      expected = ran (record {
+        capacity = 9;
+        ended = Some spent;
+        steps = 4;
+        given = 2;
+        living = 1;
+        waiting = 1;
+        landings = Some 0 ∷ [];
+        cells = Some 1 ∷ Some 0 ∷ [];
+        define = Some refusal.Waiting;
+        finish = Err refusal.Waiting;
+      });
+    }
+    ∷ record {
+      name = "two steps and three steps are none";
+      words = twice-and-thrice;
+      source = wheel 1 [];
+      work = 49;
+      asked = works 20;
+      expected = ran (record {
+        capacity = 9;
+        ended = Some complete;
+        steps = 5;
+        given = 2;
+        living = 1;
+        waiting = 0;
+        landings = Some 0 ∷ [];
+        cells = Some 0 ∷ None ∷ [];
+        define = Some refusal.Filled;
+        finish = Ok (0x8000_0001 ∷ 0x9000_0001 ∷ 0xA000_0000 ∷ 0xB000_0000 ∷ 0xC001_0000 ∷ 0xB000_0000 ∷ 0x7000_0006 ∷ []);
+      });
+    }
+    ∷ record {
+      name = "two kinds with a link between them, onto one kind by an empty path";
+      words = 0x1000_0002 ∷ 0x2000_0001 ∷ 0x1000_0101 ∷ 0x5000_0000 ∷ 0x5000_0100 ∷ 0x6000_0000 ∷ 0x7000_0006 ∷ [];
+      source = answers two-to-one;
+      work = 39;
+      asked = works 20;
+      expected = ran (record {
+        capacity = 9;
+        ended = Some complete;
+        steps = 3;
+        given = 1;
+        living = 1;
+        waiting = 0;
+        landings = Some 0 ∷ Some 0 ∷ Some 0 ∷ [];
+        cells = [];
+        define = Some refusal.NotLiving;
+        finish = Ok (0x8000_0001 ∷ 0x9000_0001 ∷ 0xC002_0000 ∷ 0xB000_0000 ∷ 0xB000_0000 ∷ 0xC001_0100 ∷ 0xB000_0000 ∷ 0x7000_0007 ∷ []);
+      });
+    }
+    ∷ record {
+      name = "a path of sixty-four steps";
+      words = with-rules (0x3000_4000 ∷ steps 64) 0x7000_0045;
+      source = wheel 1 [];
+      work = 107;
+      asked = loads;
+      expected = accepted 9;
+    }
+    ∷ record {
+      name = "a path of sixty-five steps";
+      words = with-rules (0x3000_4100 ∷ steps 65) 0x7000_0046;
+      source = wheel 1 [];
+      work = 107;
+      asked = loads;
+      expected = refused (fault-of refusal.Limit 3);
+    }
+    ∷ record {
+      name = "4,095 records";
+      words = with-rules [] 0x7000_0004;
+      source = wheel 4095 [];
+      work = 4136;
+      asked = loads;
+      expected = accepted 9;
+    }
+    ∷ record {
+      name = "4,096 records";
+      words = with-rules [] 0x7000_0004;
+      source = wheel 4096 [];
+      work = 4137;
+      asked = loads;
+      expected = refused (fault-of refusal.Large 0);
+    }
+    ∷ []
 
 -- each case is told as expected
 abbrev pub Worked : Type 0

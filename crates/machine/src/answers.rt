@@ -33,12 +33,27 @@ pub impl From<LoadFault> for Fault as FaultFromLoad {
 
     fn from(f: LoadFault) -> Fault {
         match f {
-            LoadFault::Loaded => Fault { refusal: Refusal::State, place: 0 },
+            LoadFault::Loaded => Fault {
+                refusal: Refusal::State,
+                place: 0,
+            },
             LoadFault::Problem(g) => Fault::from(g),
-            LoadFault::Shape => Fault { refusal: Refusal::Shape, place: 0 },
-            LoadFault::Large => Fault { refusal: Refusal::Large, place: 0 },
-            LoadFault::Leads(link) => Fault { refusal: Refusal::Leads, place: link as usize },
-            LoadFault::Memory => Fault { refusal: Refusal::Memory, place: 0 },
+            LoadFault::Shape => Fault {
+                refusal: Refusal::Shape,
+                place: 0,
+            },
+            LoadFault::Large => Fault {
+                refusal: Refusal::Large,
+                place: 0,
+            },
+            LoadFault::Leads(link) => Fault {
+                refusal: Refusal::Leads,
+                place: link as usize,
+            },
+            LoadFault::Memory => Fault {
+                refusal: Refusal::Memory,
+                place: 0,
+            },
         }
     }
 }

@@ -39,7 +39,8 @@ read-told ws f e =
       counted = a .1;
       linked = b .1;
       landed = m .1;
-      closed = let w = worded-ok (end ws (1 + length (a .0) + sizes span (b .0) + sizes span (m .0))) (d .0) (d .1) in w ∙ ap Ok (end-same ws (1 + length (a .0) + sizes span (b .0) + sizes span (m .0)) (d .0) w) })
+      closed = let w = worded-ok (end ws (1 + length (a .0) + sizes span (b .0) + sizes span (m .0))) (d .0) (d .1) in w ∙ ap Ok (end-same ws (1 + length (a .0) + sizes span (b .0) + sizes span (m .0)) (d .0) w);
+    })
 
 pub read-made : (ws : List ℕ) (f : File) → File-read ws f → read ws ≡ Ok f
 read-made ws f r =
@@ -67,7 +68,7 @@ module _ (ws : List ℕ) where
   outlined-ok at (Err z) ps next e = absurd (err-ok e)
 
   links-passed : (kinds next : ℕ) (ps : List ℕ) → Counted ws kinds → outlined span (1 + kinds) (links-of (counts-got ws) ws) ≡ Ok (ps, next)
-    → (ls : List Row) × (links-of (counts-got ws) ws ≡ Ok ls) × (places span (1 + kinds) ls ≡ ps) × (1 + length (counts-got ws) + sizes span ls ≡ next)
+      → (ls : List Row) × (links-of (counts-got ws) ws ≡ Ok ls) × (places span (1 + kinds) ls ≡ ps) × (1 + length (counts-got ws) + sizes span ls ≡ next)
   links-passed kinds next ps k e =
       let x = outlined-ok (1 + kinds) (links-of (counts-got ws) ws) ps next e in
       (x .0, x .1, x .2, ap (λ n. 1 + n + sizes span (x .0)) (known-length ws kinds k) ∙ x .3)
@@ -77,7 +78,7 @@ module _ (ws : List ℕ) where
   ended-ok at (Err z) next e = absurd (err-ok e)
 
   past-links : (kinds next : ℕ) (ps : List ℕ) (k : Counted ws kinds) (e : outlined span (1 + kinds) (links-of (counts-got ws) ws) ≡ Ok (ps, next))
-    → then (landings-of (counts-got ws) ws next) (behind-landings ws (counts-got ws) (links-passed kinds next ps k e .0)) ≡ read ws
+      → then (landings-of (counts-got ws) ws next) (behind-landings ws (counts-got ws) (links-passed kinds next ps k e .0)) ≡ read ws
   past-links kinds next ps k e =
       let x = links-passed kinds next ps k e in
       ap (λ p. then (landings-of (counts-got ws) ws p) (behind-landings ws (counts-got ws) (x .0))) (sym (x .3))
@@ -86,8 +87,8 @@ module _ (ws : List ℕ) where
 
   -- behind the landings only the end is left
   past-landings : (kinds next last : ℕ) (ps : List ℕ) (k : Counted ws kinds) (e : outlined span (1 + kinds) (links-of (counts-got ws) ws) ≡ Ok (ps, next))
-    (b : ended span next (landings-of (counts-got ws) ws next) ≡ Ok last)
-    → then (worded (end ws last)) (λ _. Ok (record { counts = counts-got ws; links = links-passed kinds next ps k e .0; landings = ended-ok next (landings-of (counts-got ws) ws next) last b .0 })) ≡ read ws
+      (b : ended span next (landings-of (counts-got ws) ws next) ≡ Ok last)
+      → then (worded (end ws last)) (λ _. Ok (record { counts = counts-got ws; links = links-passed kinds next ps k e .0; landings = ended-ok next (landings-of (counts-got ws) ws next) last b .0 })) ≡ read ws
   past-landings kinds next last ps k e b =
       let x = links-passed kinds next ps k e in
       let y = ended-ok next (landings-of (counts-got ws) ws next) last b in
@@ -96,7 +97,7 @@ module _ (ws : List ℕ) where
       ∙ past-links kinds next ps k e
 
   pub all-read : (kinds next last p n : ℕ) (ps : List ℕ) → Counted ws kinds → outlined span (1 + kinds) (links-of (counts-got ws) ws) ≡ Ok (ps, next)
-    → ended span next (landings-of (counts-got ws) ws next) ≡ Ok last → end ws last ≡ Ok p → length ps ≡ n → Ok (kinds, n, ps) ≡ outline-of (read ws)
+      → ended span next (landings-of (counts-got ws) ws next) ≡ Ok last → end ws last ≡ Ok p → length ps ≡ n → Ok (kinds, n, ps) ≡ outline-of (read ws)
   all-read kinds next last p n ps k e b d l =
       let x = links-passed kinds next ps k e in
       let g = known-length ws kinds k in
@@ -107,7 +108,7 @@ module _ (ws : List ℕ) where
       ∙ ap outline-of (past-landings kinds next last ps k e b)
 
 pub links-start : (ws : List ℕ) (kinds : ℕ) → Counted ws kinds
-  → prepended [] (outlined span (1 + kinds) (items span (λ room p. starts tag.RegisterLink ws p) (link (counts-got ws) ws) 64 (1 + kinds))) ≡ outlined span (1 + kinds) (links-of (counts-got ws) ws)
+    → prepended [] (outlined span (1 + kinds) (items span (λ room p. starts tag.RegisterLink ws p) (link (counts-got ws) ws) 64 (1 + kinds))) ≡ outlined span (1 + kinds) (links-of (counts-got ws) ws)
 links-start ws kinds k =
     prepended-none (outlined span (1 + kinds) (items span (λ room p. starts tag.RegisterLink ws p) (link (counts-got ws) ws) 64 (1 + kinds)))
     ∙ ap (λ n. outlined span (1 + kinds) (items span (λ room p. starts tag.RegisterLink ws p) (link (counts-got ws) ws) 64 (1 + n))) (sym (known-length ws kinds k))

@@ -52,8 +52,8 @@ module _ (ws : List ℕ) (t : Tag) (f : ℕ → Result ℕ SchemaFault) (P : ℕ
   unfolding run-words
   run-read each vs p b a s =
       items-read one-word (λ left p. ltb 0 left) (λ left p. f p) ws (length vs) (run-words t) (λ _. P) (λ k v. refl)
-        (λ k room p b v h r q u. (each p v q (one-more p b v u), let z : 0 < room = r in grind (arith, tells)))
-        (length vs) 0 p b vs (zero-add (length vs)) (omega arith) (all-each P 0 vs a) (rw (map-numbered t 0 vs) at s) (none-left (length vs) (length vs) (omega arith))
+      (λ k room p b v h r q u. (each p v q (one-more p b v u), let z : 0 < room = r in grind (arith, tells)))
+      (length vs) 0 p b vs (zero-add (length vs)) (omega arith) (all-each P 0 vs a) (rw (map-numbered t 0 vs) at s) (none-left (length vs) (length vs) (omega arith))
     where
       one-more : (p b v : ℕ) → Stands ws p (tagged t v ∷ []) b → Stands ws p (tagged t v ∷ []) (p + 1)
       one-more p b v u = let q : b ≡ p + 1 = omega (arith, u .far) in rw q at u
@@ -75,15 +75,15 @@ module _ (ws : List ℕ) (m : ℕ) where
 -- rows that begin with a tag
 module _ (ws : List ℕ) (t : Tag) (f : ℕ → ℕ → Result Row SchemaFault) (total : ℕ) (lay : Row → List ℕ) (P : ℕ → Row → Type 0) where
   rows-stand : ((room at : ℕ) (l : Row) → f room at ≡ Ok l → Stands ws at (lay l) (at + span l)) → (at : ℕ) (ls : List Row) → items span (λ room p. starts t ws p) f total at ≡ Ok ls
-    → Stands ws at (joined lay ls) (at + sizes span ls)
+      → Stands ws at (joined lay ls) (at + sizes span ls)
   rows-stand each at ls e = rw (joined-numbered lay 0 ls) (items-stand span (λ room p. starts t ws p) f ws total (λ _. lay) P (λ n room at l h. each room at l) total 0 at ls (zero-add total) e)
 
   rows-each : ((n room at : ℕ) (l : Row) → n + room ≡ total → f room at ≡ Ok l → P n l) → (at : ℕ) (ls : List Row) → items span (λ room p. starts t ws p) f total at ≡ Ok ls → Each P 0 ls
   rows-each each at ls e = items-each span (λ room p. starts t ws p) f ws total (λ _. lay) P each total 0 at ls (zero-add total) e
 
   rows-read : ((l : Row) → length (lay l) ≡ span l)
-    → ((n room at b : ℕ) (l : Row) → n + room ≡ total → 0 < room → P n l → Stands ws at (lay l) b → (f room at ≡ Ok l) × (starts t ws at ≡ true))
-    → (at b : ℕ) (ls : List Row) → length ls ≤ total → Each P 0 ls → Stands ws at (joined lay ls) b → starts t ws b ≡ false → items span (λ room p. starts t ws p) f total at ≡ Ok ls
+      → ((n room at b : ℕ) (l : Row) → n + room ≡ total → 0 < room → P n l → Stands ws at (lay l) b → (f room at ≡ Ok l) × (starts t ws at ≡ true))
+      → (at b : ℕ) (ls : List Row) → length ls ≤ total → Each P 0 ls → Stands ws at (joined lay ls) b → starts t ws b ≡ false → items span (λ room p. starts t ws p) f total at ≡ Ok ls
   rows-read len each at b ls h a s z =
       items-read span (λ room p. starts t ws p) f ws total (λ _. lay) P (λ _. len) each total 0 at b ls (zero-add total) h a (rw (joined-numbered lay 0 ls) at s) z
 
@@ -95,8 +95,8 @@ module _ (cs ws : List ℕ) where
       let n = run-length (counted (getD cs (l .to) 0) ws) (getD cs (l .from) 0) (at + 1) (l .leads) (r .each) in
       let q : at + 1 + getD cs (l .from) 0 ≡ at + span l = omega arith in
       rw (← q) (join ws at (at + 1) (at + 1 + getD cs (l .from) 0) (tagged tag.RegisterLink (l .from * 256 + l .to) ∷ []) (map (tagged tag.Record) (l .leads))
-        (stood-stands tag.RegisterLink ws at (l .from * 256 + l .to) (word-told tag.RegisterLink ws at (l .from * 256 + l .to) (r .head)))
-        (leads-stand ws (getD cs (l .to) 0) (getD cs (l .from) 0) (at + 1) (l .leads) (r .each)))
+      (stood-stands tag.RegisterLink ws at (l .from * 256 + l .to) (word-told tag.RegisterLink ws at (l .from * 256 + l .to) (r .head)))
+      (leads-stand ws (getD cs (l .to) 0) (getD cs (l .from) 0) (at + 1) (l .leads) (r .each)))
 
   link-good : (room at : ℕ) (l : Row) → link cs ws room at ≡ Ok l → Good-link cs l
   link-good room at l e =
@@ -105,7 +105,8 @@ module _ (cs ws : List ℕ) where
         from-known = r .from-known;
         to-known = r .to-known;
         full = run-length (counted (getD cs (l .to) 0) ws) (getD cs (l .from) 0) (at + 1) (l .leads) (r .each);
-        counted = leads-good ws (getD cs (l .to) 0) (getD cs (l .from) 0) (at + 1) (l .leads) (r .each) }
+        counted = leads-good ws (getD cs (l .to) 0) (getD cs (l .from) 0) (at + 1) (l .leads) (r .each);
+      }
 
   landing-stands : (room at : ℕ) (l : Row) → landing cs ws room at ≡ Ok l → Stands ws at (landing-words l) (at + span l)
   landing-stands room at l e =
@@ -113,8 +114,8 @@ module _ (cs ws : List ℕ) where
       let q : at + 1 + length (l .leads) ≡ at + span l = omega arith in
       let v = length (l .leads) * 65536 + l .from * 256 + l .to in
       rw (← q) (join ws at (at + 1) (at + 1 + length (l .leads)) (tagged tag.Landings v ∷ []) (map (tagged tag.Record) (l .leads))
-        (stood-stands tag.Landings ws at v (word-told tag.Landings ws at v (r .head)))
-        (leads-stand ws (getD cs (l .to) 0) (length (l .leads)) (at + 1) (l .leads) (r .each)))
+      (stood-stands tag.Landings ws at v (word-told tag.Landings ws at v (r .head)))
+      (leads-stand ws (getD cs (l .to) 0) (length (l .leads)) (at + 1) (l .leads) (r .each)))
 
   landing-good : (n room at : ℕ) (l : Row) → n + room ≡ 32 → landing cs ws room at ≡ Ok l → Good-landing cs n l
   landing-good n room at l h e =
@@ -123,7 +124,8 @@ module _ (cs ws : List ℕ) where
         numbered = omega (arith, r .numbered);
         to-known = r .to-known;
         short = r .short;
-        counted = leads-good ws (getD cs (l .to) 0) (length (l .leads)) (at + 1) (l .leads) (r .each) }
+        counted = leads-good ws (getD cs (l .to) 0) (length (l .leads)) (at + 1) (l .leads) (r .each);
+      }
 
   module _ (few : length cs ≤ 32) (small : All (λ c. c < 65536) cs) where
     count-small : (k : ℕ) → k < length cs → getD cs k 0 ≤ 65536
@@ -132,28 +134,32 @@ module _ (cs ws : List ℕ) where
     link-read : (n room at b : ℕ) (l : Row) → n + room ≡ 64 → 0 < room → Good-link cs l → Stands ws at (link-words l) b → (link cs ws room at ≡ Ok l) × (starts tag.RegisterLink ws at ≡ true)
     link-read n room at b l t h g s =
         let v = l .from * 256 + l .to in
-        let w : v < 65536 = omega (arith, g .from-known, g .to-known) in
-        (link-made cs ws room at l (omega arith) (record {
-          roomy = h;
-          head = word-read tag.RegisterLink ws at v (stands-stood tag.RegisterLink ws at b v (map (tagged tag.Record) (l .leads)) w s);
-          from-known = g .from-known;
-          to-known = g .to-known;
-          each = ap (λ n. run (counted (getD cs (l .to) 0) ws) n (at + 1)) (sym (g .full))
-            ∙ leads-read ws (getD cs (l .to) 0) (count-small (l .to) (g .to-known)) (l .leads) (at + 1) b (g .counted) (back ws at b (tagged tag.RegisterLink v ∷ []) (map (tagged tag.Record) (l .leads)) s) }),
-        stands-starts tag.RegisterLink ws at b v (map (tagged tag.Record) (l .leads)) (omega arith) s)
+        let w : v < 65536 = omega (arith, g .from-known, g .to-known) in (
+          link-made cs ws room at l (omega arith) (record {
+            roomy = h;
+            head = word-read tag.RegisterLink ws at v (stands-stood tag.RegisterLink ws at b v (map (tagged tag.Record) (l .leads)) w s);
+            from-known = g .from-known;
+            to-known = g .to-known;
+            each = ap (λ n. run (counted (getD cs (l .to) 0) ws) n (at + 1)) (sym (g .full))
+                ∙ leads-read ws (getD cs (l .to) 0) (count-small (l .to) (g .to-known)) (l .leads) (at + 1) b (g .counted) (back ws at b (tagged tag.RegisterLink v ∷ []) (map (tagged tag.Record) (l .leads)) s);
+          }),
+          stands-starts tag.RegisterLink ws at b v (map (tagged tag.Record) (l .leads)) (omega arith) s,
+        )
 
     landing-read : (n room at b : ℕ) (l : Row) → n + room ≡ 32 → 0 < room → Good-landing cs n l → Stands ws at (landing-words l) b → (landing cs ws room at ≡ Ok l) × (starts tag.Landings ws at ≡ true)
     landing-read n room at b l t h g s =
         let v = length (l .leads) * 65536 + l .from * 256 + l .to in
-        let w : v < 268435456 = omega (arith, g .numbered, g .to-known, g .short) in
-        (landing-made cs ws room at l (omega arith) (record {
-          roomy = h;
-          head = word-read tag.Landings ws at v (stands-stood tag.Landings ws at b v (map (tagged tag.Record) (l .leads)) w s);
-          numbered = omega (arith, g .numbered);
-          to-known = g .to-known;
-          short = g .short;
-          each = leads-read ws (getD cs (l .to) 0) (count-small (l .to) (g .to-known)) (l .leads) (at + 1) b (g .counted) (back ws at b (tagged tag.Landings v ∷ []) (map (tagged tag.Record) (l .leads)) s) }),
-        stands-starts tag.Landings ws at b v (map (tagged tag.Record) (l .leads)) w s)
+        let w : v < 268435456 = omega (arith, g .numbered, g .to-known, g .short) in (
+          landing-made cs ws room at l (omega arith) (record {
+            roomy = h;
+            head = word-read tag.Landings ws at v (stands-stood tag.Landings ws at b v (map (tagged tag.Record) (l .leads)) w s);
+            numbered = omega (arith, g .numbered);
+            to-known = g .to-known;
+            short = g .short;
+            each = leads-read ws (getD cs (l .to) 0) (count-small (l .to) (g .to-known)) (l .leads) (at + 1) b (g .counted) (back ws at b (tagged tag.Landings v ∷ []) (map (tagged tag.Record) (l .leads)) s);
+          }),
+          stands-starts tag.Landings ws at b v (map (tagged tag.Record) (l .leads)) w s,
+        )
 
 -- how long a well-formed file can be
 links-short : (cs : List ℕ) (ls : List Row) → All (λ c. c < 65536) cs → All (Good-link cs) ls → sizes span ls ≤ length ls * 65536
@@ -175,12 +181,12 @@ before ws f r =
     let b = 1 + n + sizes span (f .links) in
     let e = b + sizes span (f .landings) in
     join ws 0 (1 + n) e (tagged tag.Register n ∷ map (tagged tag.Count) (f .counts)) (joined link-words (f .links) ++ joined landing-words (f .landings))
-      (join ws 0 1 (1 + n) (tagged tag.Register n ∷ []) (map (tagged tag.Count) (f .counts))
-        (stood-stands tag.Register ws 0 n (word-told tag.Register ws 0 n (k .first)))
-        (run-stands ws tag.Count (count ws) (λ c. c < 65536) (λ p v q. stood-stands tag.Count ws p v (count-told ws p v q)) n 1 (f .counts) (k .each)))
-      (join ws (1 + n) b e (joined link-words (f .links)) (joined landing-words (f .landings))
-        (rows-stand ws tag.RegisterLink (link (f .counts) ws) 64 link-words (λ _. Good-link (f .counts)) (link-stands (f .counts) ws) (1 + n) (f .links) (r .linked))
-        (rows-stand ws tag.Landings (landing (f .counts) ws) 32 landing-words (Good-landing (f .counts)) (landing-stands (f .counts) ws) b (f .landings) (r .landed)))
+    (join ws 0 1 (1 + n) (tagged tag.Register n ∷ []) (map (tagged tag.Count) (f .counts))
+    (stood-stands tag.Register ws 0 n (word-told tag.Register ws 0 n (k .first)))
+    (run-stands ws tag.Count (count ws) (λ c. c < 65536) (λ p v q. stood-stands tag.Count ws p v (count-told ws p v q)) n 1 (f .counts) (k .each)))
+    (join ws (1 + n) b e (joined link-words (f .links)) (joined landing-words (f .landings))
+    (rows-stand ws tag.RegisterLink (link (f .counts) ws) 64 link-words (λ _. Good-link (f .counts)) (link-stands (f .counts) ws) (1 + n) (f .links) (r .linked))
+    (rows-stand ws tag.Landings (landing (f .counts) ws) 32 landing-words (Good-landing (f .counts)) (landing-stands (f .counts) ws) b (f .landings) (r .landed)))
 
 pub read-layout : (ws : List ℕ) (f : File) → read ws ≡ Ok f → (ws ≡ layout f) × Well-formed f
 read-layout ws f p =
@@ -192,16 +198,18 @@ read-layout ws f p =
     let s = before ws f r in
     let z = end-told ws e e (r .closed) in
     let m : length (before-end f) ≡ e = let h = s .far in omega arith in
-    let y : Stands ws e (tagged tag.End (length (before-end f)) ∷ []) (e + 1) = rw m (stood-stands tag.End ws e e (z .0)) in
-    (whole ws (layout f) (e + 1) (join ws 0 e (e + 1) (before-end f) (tagged tag.End (length (before-end f)) ∷ []) s y) (z .1),
-    record {
-      few-kinds = k .few;
-      small = run-all ws tag.Count (count ws) (λ c. c < 65536) (λ q v h. count-told ws q v h .small) n 1 (f .counts) (k .each);
-      few-links = items-length span (λ room p. starts tag.RegisterLink ws p) (link (f .counts) ws) 64 (1 + n) (f .links) (r .linked);
-      links = each-all (Good-link (f .counts)) 0 (f .links)
-        (rows-each ws tag.RegisterLink (link (f .counts) ws) 64 link-words (λ _. Good-link (f .counts)) (λ k room p l h. link-good (f .counts) ws room p l) (1 + n) (f .links) (r .linked));
-      few-landings = items-length span (λ room p. starts tag.Landings ws p) (landing (f .counts) ws) 32 b (f .landings) (r .landed);
-      landings = rows-each ws tag.Landings (landing (f .counts) ws) 32 landing-words (Good-landing (f .counts)) (landing-good (f .counts) ws) b (f .landings) (r .landed) })
+    let y : Stands ws e (tagged tag.End (length (before-end f)) ∷ []) (e + 1) = rw m (stood-stands tag.End ws e e (z .0)) in (
+      whole ws (layout f) (e + 1) (join ws 0 e (e + 1) (before-end f) (tagged tag.End (length (before-end f)) ∷ []) s y) (z .1),
+      record {
+        few-kinds = k .few;
+        small = run-all ws tag.Count (count ws) (λ c. c < 65536) (λ q v h. count-told ws q v h .small) n 1 (f .counts) (k .each);
+        few-links = items-length span (λ room p. starts tag.RegisterLink ws p) (link (f .counts) ws) 64 (1 + n) (f .links) (r .linked);
+        links = each-all (Good-link (f .counts)) 0 (f .links)
+            (rows-each ws tag.RegisterLink (link (f .counts) ws) 64 link-words (λ _. Good-link (f .counts)) (λ k room p l h. link-good (f .counts) ws room p l) (1 + n) (f .links) (r .linked));
+        few-landings = items-length span (λ room p. starts tag.Landings ws p) (landing (f .counts) ws) 32 b (f .landings) (r .landed);
+        landings = rows-each ws tag.Landings (landing (f .counts) ws) 32 landing-words (Good-landing (f .counts)) (landing-good (f .counts) ws) b (f .landings) (r .landed);
+      },
+    )
 
 link-span : (l : Row) → length (link-words l) ≡ span l
 link-span l = let h = length-map (l .leads) (tagged tag.Record) in omega arith
@@ -217,7 +225,7 @@ count-read ws p v h s = ap worded (word-read tag.Count ws p v (stands-stood tag.
 
 -- no link begins at the landings or at the end
 landings-no-link : (cs ws : List ℕ) (at b n e : ℕ) (ls : List Row) → length cs ≤ 32 → length ls + n ≤ 32 → e < 268435456 → Each (Good-landing cs) n ls
-  → Stands ws at (joined landing-words ls ++ tagged tag.End e ∷ []) b → starts tag.RegisterLink ws at ≡ false
+    → Stands ws at (joined landing-words ls ++ tagged tag.End e ∷ []) b → starts tag.RegisterLink ws at ≡ false
 landings-no-link cs ws at b n e [] few room h a s = stands-other tag.RegisterLink tag.End ws at b e [] h (λ q. omega arith) s
 landings-no-link cs ws at b n e (l ∷ ls) few room h a s =
     let v = length (l .leads) * 65536 + l .from * 256 + l .to in
@@ -252,15 +260,17 @@ module _ (ws : List ℕ) (f : File) (w : Well-formed f) (all : Stands ws 0 (layo
         counted = counts-read ws cs (record {
           first = let v : n < 256 = omega (arith, w .few-kinds) in word-read tag.Register ws 0 n (stands-stood tag.Register ws 0 (1 + n) n (map (tagged tag.Count) cs) v h0);
           few = w .few-kinds;
-          each = run-read ws tag.Count (count ws) (λ c. c < 65536) (count-read ws) cs 1 (1 + n) (w .small) (back ws 0 (1 + n) (tagged tag.Register n ∷ []) (map (tagged tag.Count) cs) h0) });
+          each = run-read ws tag.Count (count ws) (λ c. c < 65536) (count-read ws) cs 1 (1 + n) (w .small) (back ws 0 (1 + n) (tagged tag.Register n ∷ []) (map (tagged tag.Count) cs) h0);
+        });
         linked = rows-read ws tag.RegisterLink (link cs ws) 64 link-words (λ _. Good-link cs) link-span (link-read cs ws (w .few-kinds) (w .small)) (1 + n) (1 + n + sizes span (f .links)) (f .links)
-          (w .few-links) (all-each (Good-link cs) 0 (f .links) (w .links)) l0
-          (landings-no-link cs ws (1 + n + sizes span (f .links)) (length ws) 0 e (f .landings) (w .few-kinds) (omega (arith, w .few-landings)) short (w .landings)
+            (w .few-links) (all-each (Good-link cs) 0 (f .links) (w .links)) l0
+            (landings-no-link cs ws (1 + n + sizes span (f .links)) (length ws) 0 e (f .landings) (w .few-kinds) (omega (arith, w .few-landings)) short (w .landings)
             (join ws (1 + n + sizes span (f .links)) e (length ws) ms (tagged tag.End e ∷ []) m0 s7));
         landed = rows-read ws tag.Landings (landing cs ws) 32 landing-words (Good-landing cs) landing-span (landing-read cs ws (w .few-kinds) (w .small)) (1 + n + sizes span (f .links)) e (f .landings)
-          (w .few-landings) (w .landings) m0
-          (stands-other tag.Landings tag.End ws e (length ws) e [] short (λ q. omega arith) s7);
-        closed = rw (← en) last }
+            (w .few-landings) (w .landings) m0
+            (stands-other tag.Landings tag.End ws e (length ws) e [] short (λ q. omega arith) s7);
+        closed = rw (← en) last;
+      }
 
 pub layout-read : (ws : List ℕ) (f : File) → (ws ≡ layout f) × Well-formed f → read ws ≡ Ok f
 layout-read ws f h =

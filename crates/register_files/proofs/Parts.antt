@@ -47,13 +47,14 @@ counts-told ws cs e =
     record {
       first = worded-ok (word tag.Register ws 0) (a .0) (a .1) ∙ ap Ok (sym n);
       few = grind (arith, tells);
-      each = ap (λ m. run (count ws) m 1) n ∙ b .1 }
+      each = ap (λ m. run (count ws) m 1) n ∙ b .1;
+    }
 
 pub counts-read : (ws cs : List ℕ) → Kinds-read ws cs → counts-of ws ≡ Ok cs
 counts-read ws cs k =
     ap (λ r. then (worded r) (λ n. cond (ltb 32 n) (Err (Words (Limit 0))) (run (count ws) n 1))) (k .first)
     ∙ let z : ltb 32 (length cs) ≡ false = grind (arith, tells) in
-      ap (λ b. cond b (Err (Words (Limit 0))) (run (count ws) (length cs) 1)) z ∙ k .each
+    ap (λ b. cond b (Err (Words (Limit 0))) (run (count ws) (length cs) 1)) z ∙ k .each
 
 pub count-stood : (ws cs : List ℕ) (k : ℕ) → counts-of ws ≡ Ok cs → k < length cs → Stood tag.Count ws (1 + k) (getD cs k 0)
 count-stood ws cs k e h = count-told ws (1 + k) (getD cs k 0) (run-at (count ws) (length cs) 1 k cs 0 (counts-told ws cs e .each) h)
@@ -73,21 +74,21 @@ behind-row at from to (Ok xs) = let h = sizes-one xs in ap Ok (omega arith)
 behind-row at from to (Err e) = refl
 
 pub link-is : (cs ws : List ℕ) (room at v : ℕ) → word tag.RegisterLink ws at ≡ Ok v → 0 < room → v / 256 < length cs → v % 256 < length cs
-  → link cs ws room at ≡ row cs ws at (getD cs (v / 256) 0) (v / 256) (v % 256)
+    → link cs ws room at ≡ row cs ws at (getD cs (v / 256) 0) (v / 256) (v % 256)
 link-is cs ws room at v e h a b =
     ap (λ r. then (worded r) (λ v. cond (eqb room 0) (Err (Words (Limit at))) (cond (ltb (v / 256) (length cs) && ltb (v % 256) (length cs)) (row cs ws at (getD cs (v / 256) 0) (v / 256) (v % 256)) (Err (Unknown at))))) e
     ∙ grind (arith, tells)
 
 pub landing-is : (cs ws : List ℕ) (room at v : ℕ) → word tag.Landings ws at ≡ Ok v → 0 < room → v / 256 % 256 + room ≡ 32 → v % 256 < length cs
-  → landing cs ws room at ≡ row cs ws at (v / 65536) (v / 256 % 256) (v % 256)
+    → landing cs ws room at ≡ row cs ws at (v / 65536) (v / 256 % 256) (v % 256)
 landing-is cs ws room at v e h a b =
     ap (λ r. then (worded r) (λ v. cond (eqb room 0) (Err (Words (Limit at))) (cond (eqb (v / 256 % 256 + room) 32 && ltb (v % 256) (length cs)) (row cs ws at (v / 65536) (v / 256 % 256) (v % 256)) (Err (Unknown at))))) e
     ∙ grind (arith, tells)
 
 -- the same, as the code finds them
 pub link-code : (ws : List ℕ) (kinds room at v n size : ℕ) → Counted ws kinds → word tag.RegisterLink ws at ≡ Ok v → 0 < room → v / 256 < kinds → v % 256 < kinds
-  → n ≡ getD (counts-got ws) (v / 256) 0 → size ≡ getD (counts-got ws) (v % 256) 0
-  → ended one-word (at + 1) (run (counted size ws) n (at + 1)) ≡ behind span at (link (counts-got ws) ws room at)
+    → n ≡ getD (counts-got ws) (v / 256) 0 → size ≡ getD (counts-got ws) (v % 256) 0
+    → ended one-word (at + 1) (run (counted size ws) n (at + 1)) ≡ behind span at (link (counts-got ws) ws room at)
 link-code ws kinds room at v n size k e h a b p q =
     let g = known-length ws kinds k in
     ap (λ s. ended one-word (at + 1) (run (counted s ws) n (at + 1))) q
@@ -96,8 +97,8 @@ link-code ws kinds room at v n size k e h a b p q =
     ∙ ap (behind span at) (sym (link-is (counts-got ws) ws room at v e h (omega arith) (omega arith)))
 
 pub landing-code : (ws : List ℕ) (kinds room at v size : ℕ) → Counted ws kinds → word tag.Landings ws at ≡ Ok v → 0 < room → v / 256 % 256 + room ≡ 32 → v % 256 < kinds
-  → size ≡ getD (counts-got ws) (v % 256) 0
-  → ended one-word (at + 1) (run (counted size ws) (v / 65536) (at + 1)) ≡ behind span at (landing (counts-got ws) ws room at)
+    → size ≡ getD (counts-got ws) (v % 256) 0
+    → ended one-word (at + 1) (run (counted size ws) (v / 65536) (at + 1)) ≡ behind span at (landing (counts-got ws) ws room at)
 landing-code ws kinds room at v size k e h a b q =
     let g = known-length ws kinds k in
     ap (λ s. ended one-word (at + 1) (run (counted s ws) (v / 65536) (at + 1))) q
@@ -108,8 +109,8 @@ pub kinds-code : (ws : List ℕ) (n m : ℕ) → word tag.Register ws 0 ≡ Ok n
 kinds-code ws n m e h p =
     let z : ltb 32 n ≡ false = grind (arith, tells) in
     sym (ap (λ r. sized (then (worded r) (λ n. cond (ltb 32 n) (Err (Words (Limit 0))) (run (count ws) n 1)))) e
-      ∙ ap (λ b. sized (cond b (Err (Words (Limit 0))) (run (count ws) n 1))) z
-      ∙ counted-so (run (count ws) n 1) refl p)
+    ∙ ap (λ b. sized (cond b (Err (Words (Limit 0))) (run (count ws) n 1))) z
+    ∙ counted-so (run (count ws) n 1) refl p)
   where
     counted-so : (r : Result (List ℕ) SchemaFault) → run (count ws) n 1 ≡ r → ended one-word 1 r ≡ Ok m → sized r ≡ Ok n
     counted-so (Ok xs) q p = ap Ok (run-length (count ws) n 1 xs q)
@@ -137,7 +138,7 @@ both true b e = (refl, e)
 both false b e = absurd (let z : _≡_ {A = Bool} true false = sym e in let y : _≡_ {A = ℕ} 0 1 = cc in omega arith)
 
 row-told : (cs ws : List ℕ) (at n from to : ℕ) (l : Row) → row cs ws at n from to ≡ Ok l
-  → (run (counted (getD cs to 0) ws) n (at + 1) ≡ Ok (l .leads)) × (l .from ≡ from) × (l .to ≡ to)
+    → (run (counted (getD cs to 0) ws) n (at + 1) ≡ Ok (l .leads)) × (l .from ≡ from) × (l .to ≡ to)
 row-told cs ws at n from to l e =
     let x = then-ok (run (counted (getD cs to 0) ws) n (at + 1)) (λ rs. Ok (record { from = from; to = to; leads = rs })) l e in
     let h : l ≡ record { from = from; to = to; leads = x .0 } = cc in
@@ -158,7 +159,8 @@ link-told cs ws room at l e =
       head = w ∙ ap Ok q;
       from-known = rw (r .1) (grind (arith, tells));
       to-known = rw (r .2) (grind (arith, tells));
-      each = ap (λ t. run (counted (getD cs t 0) ws) (getD cs (l .from) 0) (at + 1)) (r .2) ∙ ap (λ t. run (counted (getD cs (v % 256) 0) ws) (getD cs t 0) (at + 1)) (r .1) ∙ r .0 }
+      each = ap (λ t. run (counted (getD cs t 0) ws) (getD cs (l .from) 0) (at + 1)) (r .2) ∙ ap (λ t. run (counted (getD cs (v % 256) 0) ws) (getD cs t 0) (at + 1)) (r .1) ∙ r .0;
+    }
 
 pub link-made : (cs ws : List ℕ) (room at : ℕ) (l : Row) → length cs ≤ 256 → Link-read cs ws room at l → link cs ws room at ≡ Ok l
 link-made cs ws room at l h r =
@@ -197,7 +199,8 @@ landing-told cs ws room at l e =
       numbered = rw (r .1) (grind (arith, tells));
       to-known = rw (r .2) (grind (arith, tells));
       short = omega (arith, s .small);
-      each = ap (λ t. run (counted (getD cs t 0) ws) (length (l .leads)) (at + 1)) (r .2) ∙ ap (λ t. run (counted (getD cs (v % 256) 0) ws) t (at + 1)) m ∙ r .0 }
+      each = ap (λ t. run (counted (getD cs t 0) ws) (length (l .leads)) (at + 1)) (r .2) ∙ ap (λ t. run (counted (getD cs (v % 256) 0) ws) t (at + 1)) m ∙ r .0;
+    }
 
 pub landing-made : (cs ws : List ℕ) (room at : ℕ) (l : Row) → length cs ≤ 256 → Landing-read cs ws room at l → landing cs ws room at ≡ Ok l
 landing-made cs ws room at l h r =

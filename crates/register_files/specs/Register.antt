@@ -40,20 +40,20 @@ row cs ws at n from to = then (run (counted (getD cs to 0) ws) n (at + 1)) (λ r
 -- a link; there is room for that many
 abbrev pub link : List ℕ → List ℕ → ℕ → ℕ → Result Row SchemaFault
 link cs ws room at =
-  then (worded (word tag.RegisterLink ws at)) (λ v.
+    then (worded (word tag.RegisterLink ws at)) (λ v.
     cond (eqb room 0) (Err (Words (Limit at)))
-      (cond (ltb (v / 256) (length cs) && ltb (v % 256) (length cs))
-        (row cs ws at (getD cs (v / 256) 0) (v / 256) (v % 256))
-        (Err (Unknown at))))
+    (cond (ltb (v / 256) (length cs) && ltb (v % 256) (length cs))
+    (row cs ws at (getD cs (v / 256) 0) (v / 256) (v % 256))
+    (Err (Unknown at))))
 
 -- the landings of a source kind, which is 32 less the room
 abbrev pub landing : List ℕ → List ℕ → ℕ → ℕ → Result Row SchemaFault
 landing cs ws room at =
-  then (worded (word tag.Landings ws at)) (λ v.
+    then (worded (word tag.Landings ws at)) (λ v.
     cond (eqb room 0) (Err (Words (Limit at)))
-      (cond (eqb (v / 256 % 256 + room) 32 && ltb (v % 256) (length cs))
-        (row cs ws at (v / 65536) (v / 256 % 256) (v % 256))
-        (Err (Unknown at))))
+    (cond (eqb (v / 256 % 256 + room) 32 && ltb (v % 256) (length cs))
+    (row cs ws at (v / 65536) (v / 256 % 256) (v % 256))
+    (Err (Unknown at))))
 
 -- the words of a row
 abbrev pub span : Row → ℕ
@@ -74,7 +74,7 @@ landings-of cs ws at = items span (λ room p. starts tag.Landings ws p) (landing
 -- what is left to read behind the landings, the links, the counts
 abbrev pub behind-landings : List ℕ → List ℕ → List Row → List Row → Result File SchemaFault
 behind-landings ws cs ls ms =
-  then (worded (end ws (1 + length cs + sizes span ls + sizes span ms))) (λ _. Ok (record { counts = cs; links = ls; landings = ms }))
+    then (worded (end ws (1 + length cs + sizes span ls + sizes span ms))) (λ _. Ok (record { counts = cs; links = ls; landings = ms }))
 
 abbrev pub behind-links : List ℕ → List ℕ → List Row → Result File SchemaFault
 behind-links ws cs ls = then (landings-of cs ws (1 + length cs + sizes span ls)) (behind-landings ws cs ls)

@@ -9,7 +9,6 @@ ghost use Rattle.register_files.specs.Outline.{Counted, counts-got, outline-of
 ghost use Rattle.std.specs.Vec.{made};
 ghost use Rattle.register_files.specs.Layout.{Reads-layouts};
 ghost use Rattle.register_files.specs.Shown.{shown, told as toldOf};
-
 use words::faults::SchemaFault;
 use words::faults::SchemaFromWord;
 use words::faults::WordFault;
@@ -138,7 +137,11 @@ fn links(words: &[u32], kinds: u32) -> Result<LinkPlaces, SchemaFault>
         count += 1;
         at = next;
     }
-    Ok(LinkPlaces { count, places, next: at })
+    Ok(LinkPlaces {
+        count,
+        places,
+        next: at,
+    })
 }
 
 fn landings(words: &[u32], kinds: u32, start: usize) -> Result<usize, SchemaFault>
@@ -173,7 +176,11 @@ fn outlined(words: &[u32]) -> Result<Outline, SchemaFault>
     let _ = end(words, last)?;
     let count = links.count;
     let places = links.places;
-    Ok(Outline { kinds, links: count, places })
+    Ok(Outline {
+        kinds,
+        links: count,
+        places,
+    })
 }
 
 // Reads a register file. It accepts exactly the words that are the layout of a well-formed file.

@@ -31,14 +31,14 @@ unfolding file
 file-none = refl
 
 made-by : (r : Result File SchemaFault) (k n : ℕ) (ps : List ℕ) → outline-of r ≡ Ok (k, n, ps)
-  → (r ≡ Ok (or-none r)) × (k ≡ length (or-none r .counts)) × (n ≡ length (or-none r .links)) × (ps ≡ places span (1 + k) (or-none r .links))
+    → (r ≡ Ok (or-none r)) × (k ≡ length (or-none r .counts)) × (n ≡ length (or-none r .links)) × (ps ≡ places span (1 + k) (or-none r .links))
 made-by (Ok f) k n ps e =
     let h : _≡_ {A = ℕ × ℕ × List ℕ} (length (f .counts), length (f .links), places span (1 + length (f .counts)) (f .links)) (k, n, ps) = cc in
     (refl, ap (λ t. t .0) (sym h), ap (λ t. t .1) (sym h), ap (λ t. t .2) (sym h) ∙ ap (λ j. places span (1 + j) (f .links)) (ap (λ t. t .0) h))
 made-by (Err y) k n ps e = absurd (err-ok e)
 
 pub file-made : (ws : List ℕ) (k n : ℕ) (ps : List ℕ) → outline-of (read ws) ≡ Ok (k, n, ps)
-  → (read ws ≡ Ok (file ws)) × (k ≡ length (file ws .counts)) × (n ≡ length (file ws .links)) × (ps ≡ places span (1 + k) (file ws .links))
+    → (read ws ≡ Ok (file ws)) × (k ≡ length (file ws .counts)) × (n ≡ length (file ws .links)) × (ps ≡ places span (1 + k) (file ws .links))
 unfolding file
 file-made ws k n ps e = made-by (read ws) k n ps e
 
@@ -64,13 +64,13 @@ held-count ws k h = count-stood ws (file ws .counts) k (with-kinds ws (omega ari
 
 -- a link stands at its place
 pub held-link : (ws : List ℕ) (l kinds n p : ℕ) (ps : List ℕ) → l < n → n ≡ length (file ws .links) → kinds ≡ length (file ws .counts) → take n ps ≡ places span (1 + kinds) (file ws .links) → p ≡ getD ps l 0
-  → Link-read (file ws .counts) ws (64 - l) p (row-at (file ws) l)
+    → Link-read (file ws .counts) ws (64 - l) p (row-at (file ws) l)
 held-link ws l kinds n p ps h a b e q =
     let r = with-links ws (omega arith) in
     let s : getD (places span (1 + length (file ws .counts)) (file ws .links)) l 0 ≡ p =
-      ap (λ j. getD (places span (1 + j) (file ws .links)) l 0) (sym b) ∙ ap (λ t. getD t l 0) (sym e) ∙ getD-take n ps l 0 h ∙ sym q in
+    ap (λ j. getD (places span (1 + j) (file ws .links)) l 0) (sym b) ∙ ap (λ t. getD t l 0) (sym e) ∙ getD-take n ps l 0 h ∙ sym q in
     link-told (file ws .counts) ws (64 - l) p (row-at (file ws) l)
-      (ap (link (file ws .counts) ws (64 - l)) (sym s) ∙ items-at span (λ room p. starts tag.RegisterLink ws p) (link (file ws .counts) ws) 64 (1 + length (file ws .counts)) l (file ws .links) no-row (r .linked) (omega arith))
+    (ap (link (file ws .counts) ws (64 - l)) (sym s) ∙ items-at span (λ room p. starts tag.RegisterLink ws p) (link (file ws .counts) ws) 64 (1 + length (file ws .counts)) l (file ws .links) no-row (r .linked) (omega arith))
 
 -- and its records behind it
 pub link-length : (cs ws : List ℕ) (room at : ℕ) (l : Row) → Link-read cs ws room at l → length (l .leads) ≡ getD cs (l .from) 0
@@ -84,7 +84,7 @@ link-stood cs ws room at l r = word-told tag.RegisterLink ws at (l .from * 256 +
 
 -- the same, as the code asks
 module _ (ws : List ℕ) (kinds links : ℕ) (ps : List ℕ) (kinded : kinds ≡ length (file ws .counts)) (linked : links ≡ length (file ws .links))
-  (placed : take links ps ≡ places span (1 + kinds) (file ws .links)) where
+    (placed : take links ps ≡ places span (1 + kinds) (file ws .links)) where
   pub count-inside : (k : ℕ) → k < kinds → 1 + k < length ws
   count-inside k h = held-count ws k (omega arith) .inside
 
@@ -107,7 +107,7 @@ module _ (ws : List ℕ) (kinds links : ℕ) (ps : List ℕ) (kinded : kinds ≡
       (omega (arith, r .from-known), omega (arith, r .to-known))
 
   pub ends-are : (l : ℕ) → l < links
-    → Some (getD ws (getD ps l 0) 0 % 268435456 / 256, getD ws (getD ps l 0) 0 % 268435456 % 256) ≡ answers (file ws) .ends l
+      → Some (getD ws (getD ps l 0) 0 % 268435456 / 256, getD ws (getD ps l 0) 0 % 268435456 % 256) ≡ answers (file ws) .ends l
   ends-are l h =
       let s = link-stood _ _ _ _ _ (link-here l h) in
       let b = from-small l h in
@@ -134,13 +134,13 @@ module _ (ws : List ℕ) (kinds links : ℕ) (ps : List ℕ) (kinded : kinds ≡
       let t : ltb r (length (row-at (file ws) l .leads)) ≡ false = grind (arith, tells) in
       let u : ltb l (length (file ws .links)) ≡ true = grind (arith, tells) in
       sym (ap (λ b. cond b (cond (ltb r (length (row-at (file ws) l .leads))) (Some (getD (row-at (file ws) l .leads) r 0)) None) None) u
-        ∙ ap (λ b. cond b (Some (getD (row-at (file ws) l .leads) r 0)) None) t)
+      ∙ ap (λ b. cond b (Some (getD (row-at (file ws) l .leads) r 0)) None) t)
 
   pub lead-inside : (l r : ℕ) → l < links → r < answers (file ws) .count (row-at (file ws) l .from) → getD ps l 0 + 1 + r < length ws
   lead-inside l r h n = link-lead _ _ _ _ _ r (link-here l h) n .inside
 
   pub follow-is : (l r : ℕ) → l < links → r < answers (file ws) .count (row-at (file ws) l .from)
-    → Some (getD ws (getD ps l 0 + 1 + r) 0 % 268435456) ≡ answers (file ws) .follow l r
+      → Some (getD ws (getD ps l 0 + 1 + r) 0 % 268435456) ≡ answers (file ws) .follow l r
   follow-is l r h n =
       let m = leads-are l h in
       let s = link-lead _ _ _ _ _ r (link-here l h) n in
@@ -149,7 +149,7 @@ module _ (ws : List ℕ) (kinds links : ℕ) (ps : List ℕ) (kinded : kinds ≡
       let u : ltb l (length (file ws .links)) ≡ true = grind (arith, tells) in
       ap Some p
       ∙ sym (ap (λ b. cond b (cond (ltb r (length (row-at (file ws) l .leads))) (Some (getD (row-at (file ws) l .leads) r 0)) None) None) u
-        ∙ ap (λ b. cond b (Some (getD (row-at (file ws) l .leads) r 0)) None) t)
+      ∙ ap (λ b. cond b (Some (getD (row-at (file ws) l .leads) r 0)) None) t)
 
   pub follow-inside : (l r n : ℕ) (x : ℕ × ℕ) → Some x ≡ answers (file ws) .ends l → n ≡ answers (file ws) .count (x .0) → r < n → getD ps l 0 + 1 + r < length ws
   follow-inside l r n x e c h =
@@ -158,7 +158,7 @@ module _ (ws : List ℕ) (kinds links : ℕ) (ps : List ℕ) (kinded : kinds ≡
       lead-inside l r (t .0) (omega arith)
 
   pub follow-gives : (l r n : ℕ) (x : ℕ × ℕ) → Some x ≡ answers (file ws) .ends l → n ≡ answers (file ws) .count (x .0) → r < n
-    → Some (getD ws (getD ps l 0 + 1 + r) 0 % 268435456) ≡ answers (file ws) .follow l r
+      → Some (getD ws (getD ps l 0 + 1 + r) 0 % 268435456) ≡ answers (file ws) .follow l r
   follow-gives l r n x e c h =
       let t = ends-told l x e in
       let q : n ≡ answers (file ws) .count (row-at (file ws) l .from) = c ∙ ap (answers (file ws) .count) (t .1) in
@@ -176,4 +176,5 @@ module _ (ws : List ℕ) (kinds links : ℕ) (ps : List ℕ) (kinded : kinds ≡
     known-link = λ l h. let t : ltb l (length (file ws .links)) ≡ true = grind (arith, tells) in rw t tt;
     unknown-link = λ l h. grind (arith, tells);
     leads-unknown = λ l r h. grind (arith, tells);
-    leads-uncounted = λ l r e q h. sym (follow-stops l r (answers (file ws) .count (e .0)) e (sym q) refl h) }
+    leads-uncounted = λ l r e q h. sym (follow-stops l r (answers (file ws) .count (e .0)) e (sym q) refl h);
+  }

@@ -25,7 +25,8 @@ wheel-lawful m steps = record {
   known-link = λ l h. let t : ltb l (length steps) ≡ true = grind (arith, tells) in rw t tt;
   unknown-link = λ l h. grind (arith, tells);
   leads-unknown = λ l r h. grind (arith, tells);
-  leads-uncounted = λ l r e q h. let k = ends-kind (ltb l (length steps)) e q in grind (arith, tells) }
+  leads-uncounted = λ l r e q h. let k = ends-kind (ltb l (length steps)) e q in grind (arith, tells);
+}
 
 pub take-min : (xs : List ℕ) (n : ℕ) → take (min (length xs) n) xs ≡ take n xs
 take-min xs n = ⊎-elim

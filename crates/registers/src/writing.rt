@@ -26,9 +26,18 @@ pub impl From<WriteFault> for Fault as FaultFromWrite {
 
     fn from(f: WriteFault) -> Fault {
         match f {
-            WriteFault::Large => Fault { refusal: Refusal::Large, place: 0 },
-            WriteFault::Leads(link) => Fault { refusal: Refusal::Leads, place: link as usize },
-            WriteFault::Memory => Fault { refusal: Refusal::Memory, place: 0 },
+            WriteFault::Large => Fault {
+                refusal: Refusal::Large,
+                place: 0,
+            },
+            WriteFault::Leads(link) => Fault {
+                refusal: Refusal::Leads,
+                place: link as usize,
+            },
+            WriteFault::Memory => Fault {
+                refusal: Refusal::Memory,
+                place: 0,
+            },
         }
     }
 }

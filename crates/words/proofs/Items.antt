@@ -28,7 +28,7 @@ left-one : (n k : ℕ) → k < n → n - k ≡ suc (n - (k + 1))
 left-one n k h = omega arith
 
 outlined-more : {X : Type 0} (size : X → ℕ) (at : ℕ) (l : X) (r : Result (List X) SchemaFault)
-  → outlined size at (then r (λ ls. Ok (l ∷ ls))) ≡ prepended (at ∷ []) (outlined size (at + size l) r)
+    → outlined size at (then r (λ ls. Ok (l ∷ ls))) ≡ prepended (at ∷ []) (outlined size (at + size l) r)
 outlined-more size at l (Ok ls) = ap (λ e. Ok (at ∷ places size (at + size l) ls, e)) (sym (add-assoc at (size l) (sizes size ls)))
 outlined-more size at l (Err e) = refl
 
@@ -38,7 +38,7 @@ prepended-twice ps qs (Err e) = refl
 
 -- what accepted items say
 items-parts : {X : Type 0} (b : Bool) (r : Result X SchemaFault) (g : X → Result (List X) SchemaFault) (l : X) (ls : List X)
-  → cond b (then r (λ x. then (g x) (λ xs. Ok (x ∷ xs)))) (Ok []) ≡ Ok (l ∷ ls) → (b ≡ true) × (r ≡ Ok l) × (g l ≡ Ok ls)
+    → cond b (then r (λ x. then (g x) (λ xs. Ok (x ∷ xs)))) (Ok []) ≡ Ok (l ∷ ls) → (b ≡ true) × (r ≡ Ok l) × (g l ≡ Ok ls)
 items-parts false r g l ls e = absurd (let z : _≡_ {A = ℕ} 0 1 = cc in omega arith)
 items-parts true r g l ls e =
     let x = then-ok r (λ x. then (g x) (λ xs. Ok (x ∷ xs))) (l ∷ ls) e in
@@ -54,7 +54,7 @@ items-empty false r xs e = cc
 
 module _ {X : Type 0} (size : X → ℕ) (more : ℕ → ℕ → Bool) (f : ℕ → ℕ → Result X SchemaFault) where
   pub items-more : (n c at next : ℕ) → more (n - c) at ≡ true → c < n → behind size at (f (n - c) at) ≡ Ok next
-    → outlined size at (items size more f (n - c) at) ≡ prepended (at ∷ []) (outlined size next (items size more f (n - (c + 1)) next))
+      → outlined size at (items size more f (n - c) at) ≡ prepended (at ∷ []) (outlined size next (items size more f (n - (c + 1)) next))
   unfolding items
   items-more n c at next s h b =
       let x = behind-ok size at next (f (n - c) at) b in
@@ -86,7 +86,7 @@ module _ {X : Type 0} (size : X → ℕ) (more : ℕ → ℕ → Bool) (f : ℕ 
 
   -- one more place is written behind those that stand
   pub items-turn : (n c at next : ℕ) (ps : List ℕ) → more (n - c) at ≡ true → c < n → c < length ps → behind size at (f (n - c) at) ≡ Ok next
-    → prepended (take (c + 1) (set ps c at)) (outlined size next (items size more f (n - (c + 1)) next)) ≡ prepended (take c ps) (outlined size at (items size more f (n - c) at))
+      → prepended (take (c + 1) (set ps c at)) (outlined size next (items size more f (n - (c + 1)) next)) ≡ prepended (take c ps) (outlined size at (items size more f (n - c) at))
   items-turn n c at next ps s h l b =
       ap (λ qs. prepended qs (outlined size next (items size more f (n - (c + 1)) next))) (take-more-set ps c at l)
       ∙ prepended-twice (take c ps) (at ∷ []) (outlined size next (items size more f (n - (c + 1)) next))
@@ -97,7 +97,7 @@ module _ {X : Type 0} (size : X → ℕ) (more : ℕ → ℕ → Bool) (f : ℕ 
   items-zero at xs e = items-empty (more 0 at) (f 0 at) xs e
 
   pub items-split : (m at : ℕ) (l : X) (ls : List X) → items size more f (suc m) at ≡ Ok (l ∷ ls)
-    → (more (suc m) at ≡ true) × (f (suc m) at ≡ Ok l) × (items size more f m (at + size l) ≡ Ok ls)
+      → (more (suc m) at ≡ true) × (f (suc m) at ≡ Ok l) × (items size more f m (at + size l) ≡ Ok ls)
   unfolding items
   items-split m at l ls e = items-parts (more (suc m) at) (f (suc m) at) (λ l. items size more f m (at + size l)) l ls e
 
@@ -132,18 +132,18 @@ plus-none (Err e) = refl
 
 module _ {X : Type 0} (size : X → ℕ) (more : ℕ → ℕ → Bool) (f : ℕ → ℕ → Result X SchemaFault) where
   pub count-turn : (n c at next : ℕ) → more (n - c) at ≡ true → c < n → behind size at (f (n - c) at) ≡ Ok next
-    → plus (c + 1) (sized (items size more f (n - (c + 1)) next)) ≡ plus c (sized (items size more f (n - c) at))
+      → plus (c + 1) (sized (items size more f (n - (c + 1)) next)) ≡ plus c (sized (items size more f (n - c) at))
   unfolding items
   count-turn n c at next s h b =
       let x = behind-ok size at next (f (n - c) at) b in
       let m : n - c ≡ suc (n - (c + 1)) = left-one n c h in
       ap (λ p. plus (c + 1) (sized (items size more f (n - (c + 1)) p))) (x .2)
       ∙ sym (
-        ap (λ k. plus c (sized (items size more f k at))) m
-        ∙ ap (λ k. plus c (sized (cond k (then (f (suc (n - (c + 1))) at) (λ l. then (items size more f (n - (c + 1)) (at + size l)) (λ ls. Ok (l ∷ ls)))) (Ok [])))) (ap (λ k. more k at) (sym m) ∙ s)
-        ∙ ap (λ k. plus c (sized (then (f k at) (λ l. then (items size more f (n - (c + 1)) (at + size l)) (λ ls. Ok (l ∷ ls)))))) (sym m)
-        ∙ ap (λ r. plus c (sized (then r (λ l. then (items size more f (n - (c + 1)) (at + size l)) (λ ls. Ok (l ∷ ls)))))) (x .1)
-        ∙ plus-more c (x .0) (items size more f (n - (c + 1)) (at + size (x .0))))
+      ap (λ k. plus c (sized (items size more f k at))) m
+      ∙ ap (λ k. plus c (sized (cond k (then (f (suc (n - (c + 1))) at) (λ l. then (items size more f (n - (c + 1)) (at + size l)) (λ ls. Ok (l ∷ ls)))) (Ok [])))) (ap (λ k. more k at) (sym m) ∙ s)
+      ∙ ap (λ k. plus c (sized (then (f k at) (λ l. then (items size more f (n - (c + 1)) (at + size l)) (λ ls. Ok (l ∷ ls)))))) (sym m)
+      ∙ ap (λ r. plus c (sized (then r (λ l. then (items size more f (n - (c + 1)) (at + size l)) (λ ls. Ok (l ∷ ls)))))) (x .1)
+      ∙ plus-more c (x .0) (items size more f (n - (c + 1)) (at + size (x .0))))
 
   pub count-stop : (m c at : ℕ) (y : SchemaFault) → more m at ≡ true → behind size at (f m at) ≡ Err y → plus c (sized (items size more f m at)) ≡ Err y
   unfolding plus
@@ -163,18 +163,18 @@ ended-more size at l (Err e) = refl
 
 module _ {X : Type 0} (size : X → ℕ) (more : ℕ → ℕ → Bool) (f : ℕ → ℕ → Result X SchemaFault) where
   pub ended-turn : (n c at next : ℕ) → more (n - c) at ≡ true → c < n → behind size at (f (n - c) at) ≡ Ok next
-    → ended size next (items size more f (n - (c + 1)) next) ≡ ended size at (items size more f (n - c) at)
+      → ended size next (items size more f (n - (c + 1)) next) ≡ ended size at (items size more f (n - c) at)
   unfolding items
   ended-turn n c at next s h b =
       let x = behind-ok size at next (f (n - c) at) b in
       let m : n - c ≡ suc (n - (c + 1)) = left-one n c h in
       ap (λ p. ended size p (items size more f (n - (c + 1)) p)) (x .2)
       ∙ sym (
-        ap (λ k. ended size at (items size more f k at)) m
-        ∙ ap (λ k. ended size at (cond k (then (f (suc (n - (c + 1))) at) (λ l. then (items size more f (n - (c + 1)) (at + size l)) (λ ls. Ok (l ∷ ls)))) (Ok []))) (ap (λ k. more k at) (sym m) ∙ s)
-        ∙ ap (λ k. ended size at (then (f k at) (λ l. then (items size more f (n - (c + 1)) (at + size l)) (λ ls. Ok (l ∷ ls))))) (sym m)
-        ∙ ap (λ r. ended size at (then r (λ l. then (items size more f (n - (c + 1)) (at + size l)) (λ ls. Ok (l ∷ ls))))) (x .1)
-        ∙ ended-more size at (x .0) (items size more f (n - (c + 1)) (at + size (x .0))))
+      ap (λ k. ended size at (items size more f k at)) m
+      ∙ ap (λ k. ended size at (cond k (then (f (suc (n - (c + 1))) at) (λ l. then (items size more f (n - (c + 1)) (at + size l)) (λ ls. Ok (l ∷ ls)))) (Ok []))) (ap (λ k. more k at) (sym m) ∙ s)
+      ∙ ap (λ k. ended size at (then (f k at) (λ l. then (items size more f (n - (c + 1)) (at + size l)) (λ ls. Ok (l ∷ ls))))) (sym m)
+      ∙ ap (λ r. ended size at (then r (λ l. then (items size more f (n - (c + 1)) (at + size l)) (λ ls. Ok (l ∷ ls))))) (x .1)
+      ∙ ended-more size at (x .0) (items size more f (n - (c + 1)) (at + size (x .0))))
 
   pub ended-stop : (m at : ℕ) (y : SchemaFault) → more m at ≡ true → behind size at (f m at) ≡ Err y → ended size at (items size more f m at) ≡ Err y
   ended-stop m at y s b = ap (ended size at) (stop-at size more f m at y s (behind-err size at y (f m at) b))

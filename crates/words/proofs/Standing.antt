@@ -24,18 +24,21 @@ none ws a = record { here = refl; far = add-zero a }
 pub join : (ws : List ℕ) (a b c : ℕ) (xs ys : List ℕ) → Stands ws a xs b → Stands ws b ys c → Stands ws a (xs ++ ys) c
 join ws a b c xs ys s t = record {
   here = s .here ∙ ap (λ r. xs ++ r) (t .here) ∙ sym (append-assoc xs ys (drop c ws));
-  far = let h = length-append xs ys in omega (arith, s .far, t .far) }
+  far = let h = length-append xs ys in omega (arith, s .far, t .far);
+}
 
 pub front : (ws : List ℕ) (a c : ℕ) (xs ys : List ℕ) → Stands ws a (xs ++ ys) c → Stands ws a xs (a + length xs)
 front ws a c xs ys s = record {
   here = s .here ∙ append-assoc xs ys (drop c ws)
-    ∙ ap (λ r. xs ++ r) (sym (drop-at xs (ys ++ drop c ws) (length xs) refl) ∙ ap (drop (length xs)) (sym (append-assoc xs ys (drop c ws)) ∙ sym (s .here)) ∙ drop-drop (length xs) a ws);
-  far = refl }
+      ∙ ap (λ r. xs ++ r) (sym (drop-at xs (ys ++ drop c ws) (length xs) refl) ∙ ap (drop (length xs)) (sym (append-assoc xs ys (drop c ws)) ∙ sym (s .here)) ∙ drop-drop (length xs) a ws);
+  far = refl;
+}
 
 pub back : (ws : List ℕ) (a c : ℕ) (xs ys : List ℕ) → Stands ws a (xs ++ ys) c → Stands ws (a + length xs) ys c
 back ws a c xs ys s = record {
   here = sym (drop-drop (length xs) a ws) ∙ ap (drop (length xs)) (s .here ∙ append-assoc xs ys (drop c ws)) ∙ drop-at xs (ys ++ drop c ws) (length xs) refl;
-  far = let h = length-append xs ys in omega (arith, s .far) }
+  far = let h = length-append xs ys in omega (arith, s .far);
+}
 
 -- one word
 pub one : (ws : List ℕ) (a w : ℕ) → a < length ws → getD ws a 0 ≡ w → Stands ws a (w ∷ []) (a + 1)

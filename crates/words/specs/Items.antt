@@ -13,7 +13,7 @@ use Rattle.words.specs.Words.{then}
 unfoldable pub items : {X : Type 0} → (X → ℕ) → (ℕ → ℕ → Bool) → (ℕ → ℕ → Result X SchemaFault) → ℕ → ℕ → Result (List X) SchemaFault
 items size more f zero at = cond (more 0 at) (then (f 0 at) (λ x. Ok [])) (Ok [])
 items size more f (suc room) at =
-  cond (more (suc room) at)
+    cond (more (suc room) at)
     (then (f (suc room) at) (λ x. then (items size more f room (at + size x)) (λ xs. Ok (x ∷ xs))))
     (Ok [])
 

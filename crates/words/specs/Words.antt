@@ -24,7 +24,7 @@ fields w = w % 268435456
 -- the fields of the word at a place: it has that tag, and no bit without a field
 abbrev pub word : Tag → List ℕ → ℕ → Result ℕ WordFault
 word t ws at =
-  cond (ltb at (length ws))
+    cond (ltb at (length ws))
     (cond (eqb (tag (getD ws at 0)) (number t)) (cond (ltb (fields (getD ws at 0)) (size t)) (Ok (fields (getD ws at 0))) (Err (Wrong at))) (Err (Wrong at)))
     (Err (Missing at))
 

@@ -106,9 +106,18 @@ pub impl From<WordFault> for Fault as FaultFromWord {
 
     fn from(f: WordFault) -> Fault {
         match f {
-            WordFault::Missing(place) => Fault { refusal: Refusal::Missing, place },
-            WordFault::Wrong(place) => Fault { refusal: Refusal::Wrong, place },
-            WordFault::Limit(place) => Fault { refusal: Refusal::Limit, place },
+            WordFault::Missing(place) => Fault {
+                refusal: Refusal::Missing,
+                place,
+            },
+            WordFault::Wrong(place) => Fault {
+                refusal: Refusal::Wrong,
+                place,
+            },
+            WordFault::Limit(place) => Fault {
+                refusal: Refusal::Limit,
+                place,
+            },
         }
     }
 }
@@ -119,8 +128,14 @@ pub impl From<SchemaFault> for Fault as FaultFromSchema {
     fn from(f: SchemaFault) -> Fault {
         match f {
             SchemaFault::Words(w) => Fault::from(w),
-            SchemaFault::Unknown(place) => Fault { refusal: Refusal::Unknown, place },
-            SchemaFault::Unjoined(place) => Fault { refusal: Refusal::Unjoined, place },
+            SchemaFault::Unknown(place) => Fault {
+                refusal: Refusal::Unknown,
+                place,
+            },
+            SchemaFault::Unjoined(place) => Fault {
+                refusal: Refusal::Unjoined,
+                place,
+            },
         }
     }
 }

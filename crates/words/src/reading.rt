@@ -28,7 +28,11 @@ pub fn word(words: &[u32], at: usize, tag: Tag) -> Result<u32, WordFault>
 pub fn fields_at(words: &[u32], at: usize) -> u32
     ensures { λ r. ⌜ r ≡ fields (getD (now (words .entry)) at 0) ⌝ }
 {
-    if at < words.len() { words[at] % 268435456 } else { 0 }
+    if at < words.len() {
+        words[at] % 268435456
+    } else {
+        0
+    }
 }
 
 // Whether the word at a place has that tag.

@@ -7,4 +7,4 @@ pub returns : need.returns
 returns c =
     c .records .ensures
     ∙ landing-code (c .args .words .now) (c .args .kinds) (c .args .room) (c .args .at) (c .in-Continue-v .v) (c .count-at-size .result)
-      (c .pre .0) (sym (c .word .ensures) ∙ c .in-Continue-v .was tt) (omega arith) (omega arith) (omega arith) (c .count-at-size .ensures)
+    (c .pre .0) (sym (c .word .ensures) ∙ c .in-Continue-v .was tt) (omega arith) (omega arith) (omega arith) (c .count-at-size .ensures)

@@ -12,7 +12,7 @@ abbrev pub Inv-loop-at : given.InvT-loop-at
 Inv-loop-at l =
     (l .count ≤ 32)
     × (ended span (l .at) (items span (λ room p. starts tag.Landings (l .words) p) (landing (counts-got (l .words)) (l .words)) (32 - l .count) (l .at))
-        ≡ ended span (l .start) (landings-of (counts-got (l .words)) (l .words) (l .start)))
+    ≡ ended span (l .start) (landings-of (counts-got (l .words)) (l .words) (l .start)))
 
 abbrev pub μ-loop-at : given.MeasureT-loop-at
 μ-loop-at l = length (l .words) - l .at

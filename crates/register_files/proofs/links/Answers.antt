@@ -24,9 +24,11 @@ pub loop-places-again : need.loop-places-again
 loop-places-again c =
     let e = sym (c .link .ensures) ∙ c .in-Continue-next .was tt in
     let x = behind-ok _ _ _ _ e in
-    let w : 0 < 64 - c .loop-places .count = link-room (counts-got (c .args .words .now)) (c .args .words .now) (64 - c .loop-places .count) (c .loop-places .at) (x .0) (x .1) in
-    (omega arith, simp length-set (c .loop-places .inv .1),
-      items-turn _ _ _ _ _ _ _ _ (sym (c .loop-places-test .ensures tt)) (omega arith) (omega arith) e ∙ c .loop-places .inv .2)
+    let w : 0 < 64 - c .loop-places .count = link-room (counts-got (c .args .words .now)) (c .args .words .now) (64 - c .loop-places .count) (c .loop-places .at) (x .0) (x .1) in (
+      omega arith,
+      simp length-set (c .loop-places .inv .1),
+      items-turn _ _ _ _ _ _ _ _ (sym (c .loop-places-test .ensures tt)) (omega arith) (omega arith) e ∙ c .loop-places .inv .2,
+    )
 
 pub returns : need.returns
 returns c = record { few = c .loop-places .inv .0; told = sym (items-done _ _ _ _ _ _ (sym (c .loop-places-test .ensures tt))) ∙ c .loop-places .inv .2 }

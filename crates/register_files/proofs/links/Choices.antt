@@ -12,7 +12,7 @@ abbrev pub Inv-loop-places : given.InvT-loop-places
 Inv-loop-places l =
     (l .count ≤ 64) × (length (l .places) ≡ 64)
     × (prepended (take (l .count) (l .places)) (outlined span (l .at) (items span (λ room p. starts tag.RegisterLink (l .words) p) (link (counts-got (l .words)) (l .words)) (64 - l .count) (l .at)))
-        ≡ outlined span (1 + l .kinds) (links-of (counts-got (l .words)) (l .words)))
+    ≡ outlined span (1 + l .kinds) (links-of (counts-got (l .words)) (l .words)))
 
 abbrev pub μ-loop-places : given.MeasureT-loop-places
 μ-loop-places l = length (l .words) - l .at

@@ -13,7 +13,8 @@ returns c =
     record {
       few = c .in-Continue-links .ensures tt .few;
       told =
-        all-read (c .args .words .now) (c .in-Continue-kinds .kinds) (c .in-Continue-links .links .next) (c .in-Continue-last .last) (c .in-Continue-end .field-0)
+          all-read (c .args .words .now) (c .in-Continue-kinds .kinds) (c .in-Continue-links .links .next) (c .in-Continue-last .last) (c .in-Continue-end .field-0)
           (c .in-Continue-links .links .count) (take (c .in-Continue-links .links .count) (c .in-Continue-links .links .places))
           (sym (c .in-Continue-kinds .ensures tt)) (sym (c .in-Continue-links .ensures tt .told)) (sym (c .in-Continue-last .ensures tt)) (sym (c .in-Continue-end .ensures tt))
-          (length-take-le (c .in-Continue-links .links .count) (c .in-Continue-links .links .places) w) }
+          (length-take-le (c .in-Continue-links .links .count) (c .in-Continue-links .links .places) w);
+    }

@@ -5,18 +5,23 @@ ghost use Rattle.register_files.specs.Register.{read as readOf};
 ghost use Rattle.words.specs.Words.{giving};
 ghost use Rattle.registers.specs.Meaning.{answers, no-file};
 ghost use Rattle.registers.specs.Holding.{held-file, kept};
+use crate::held::Held;
+use crate::register::Register;
+use register_files::read_register;
 use words::faults::SchemaFault;
 use words::reading::fields_at;
-use register_files::read_register;
-use crate::register::Register;
-use crate::held::Held;
 
 impl<'a> Held<'a> {
     // A register with no kinds.
     pub fn new() -> Held<'a>
         ensures { λ r. ⌜ held-file r ≡ no-file ⌝ }
     {
-        Held { words: &[], kinds: 0, links: 0, places: [0; 64] }
+        Held {
+            words: &[],
+            kinds: 0,
+            links: 0,
+            places: [0; 64],
+        }
     }
 
     // Takes a register file in, or refuses it and keeps what it held.
@@ -26,7 +31,12 @@ impl<'a> Held<'a> {
     {
         let found = read_register(words)?;
         let places = found.places;
-        *self = Held { words, kinds: found.kinds, links: found.links, places };
+        *self = Held {
+            words,
+            kinds: found.kinds,
+            links: found.links,
+            places,
+        };
         Ok(())
     }
 }
@@ -37,9 +47,11 @@ pub impl<'a> Register for Held<'a> as HeldRegister {
     fn kinds(&self) -> u32 {
         self.kinds
     }
+
     fn links(&self) -> u32 {
         self.links as u32
     }
+
     fn ends(&self, link: u32) -> Option<(u32, u32)> {
         if (link as usize) < self.links {
             let place = self.places[link as usize];
@@ -49,9 +61,15 @@ pub impl<'a> Register for Held<'a> as HeldRegister {
             None
         }
     }
+
     fn count(&self, kind: u32) -> u32 {
-        if kind < self.kinds { fields_at(self.words, 1 + kind as usize) } else { 0 }
+        if kind < self.kinds {
+            fields_at(self.words, 1 + kind as usize)
+        } else {
+            0
+        }
     }
+
     fn follow(&self, link: u32, record: u32) -> Option<u32> {
         let (from, _) = self.ends(link)?;
         if record >= self.count(from) {

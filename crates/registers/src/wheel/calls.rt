@@ -16,7 +16,11 @@ impl Wheel {
         for i in 0..used {
             list[i] = steps[i];
         }
-        Wheel { size, used, steps: list }
+        Wheel {
+            size,
+            used,
+            steps: list,
+        }
     }
 }
 
@@ -32,7 +36,11 @@ pub impl Register for Wheel as WheelRegister {
     }
 
     fn ends(&self, link: u32) -> Option<(u32, u32)> {
-        if (link as usize) < self.used { Some((0, 0)) } else { None }
+        if (link as usize) < self.used {
+            Some((0, 0))
+        } else {
+            None
+        }
     }
 
     fn count(&self, kind: u32) -> u32 {

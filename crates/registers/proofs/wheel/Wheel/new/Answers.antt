@@ -14,9 +14,10 @@ loop-i-again c =
     let ys = c .args .steps .now in
     let i = c .loop-i .i in
     let h : i < length xs = omega arith in
-    let k : i < length ys = omega arith in
-    (simp length-set (c .loop-i .inv .0),
-     take-more-set xs i (getD ys i 0) h ∙ ap (λ t. t ++ getD ys i 0 ∷ []) (c .loop-i .inv .1) ∙ sym (take-more ys i 0 k))
+    let k : i < length ys = omega arith in (
+      simp length-set (c .loop-i .inv .0),
+      take-more-set xs i (getD ys i 0) h ∙ ap (λ t. t ++ getD ys i 0 ∷ []) (c .loop-i .inv .1) ∙ sym (take-more ys i 0 k),
+    )
 
 pub returns : need.returns
 returns c =
