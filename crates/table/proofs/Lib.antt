@@ -1,2 +1,4 @@
 pub mod Places
+pub mod Writes
 pub mod Shown
+pub mod Keeps

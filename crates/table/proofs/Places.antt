@@ -58,35 +58,40 @@ sum-more f zero k h = absurd (omega arith)
 sum-more f (suc n) k h = elim (cases-eq k n) [ inl e ↦ rw e (omega arith) | inr e ↦ omega (arith, sum-more f n k (omega (arith, e))) ]
 
 -- the tests of a slot
-pub inside-true : (r : Raw) (t : Slot) → inside r t ≡ true → Within r t
-inside-true r (cell e l) h = (grind (arith, tells), grind (arith, tells))
-inside-true r (landing k q) h = (grind (arith, tells), grind (arith, tells))
+module _ (h : Shape) (given : ℕ) where
+  pub inside-true : (t : Slot) → inside h given t ≡ true → Within h given t
+  inside-true (cell e l) b = (grind (arith, tells), grind (arith, tells))
+  inside-true (landing k q) b = (grind (arith, tells), grind (arith, tells))
 
-pub within-true : (r : Raw) (t : Slot) → Within r t → inside r t ≡ true
-within-true r (cell e l) w = grind (arith, tells)
-within-true r (landing k q) w = grind (arith, tells)
+  pub within-true : (t : Slot) → Within h given t → inside h given t ≡ true
+  within-true (cell e l) w = grind (arith, tells)
+  within-true (landing k q) w = grind (arith, tells)
+
+  pub within-more : (t : Slot) → Within h given t → Within h (given + 1) t
+  within-more (cell e l) w = (omega arith, w .1)
+  within-more (landing k q) w = w
 
 module _ (r : Raw) (fits : Fits r) where
   -- a landing lies between the problem and the source's answers
-  pub landing-low : (k q : ℕ) → Within r (landing k q) → (r .shape .lands ≤ spot (r .shape) (landing k q)) × (spot (r .shape) (landing k q) < r .shape .lands + r .shape .records)
+  pub landing-low : (k q : ℕ) → Within (r .shape) (r .given) (landing k q) → (r .shape .lands ≤ spot (r .shape) (landing k q)) × (spot (r .shape) (landing k q) < r .shape .lands + r .shape .records)
   landing-low k q w =
     let s = fits .stacked k (w .0) in
     let m = sum-more (count (r .shape)) (r .shape .kinds) k (w .0) in
     (omega arith, omega (arith, fits .total))
 
-  pub spot-fits : (t : Slot) → Within r t → spot (r .shape) t < length (r .ws)
+  pub spot-fits : (t : Slot) → Within (r .shape) (r .given) t → spot (r .shape) t < length (r .ws)
   spot-fits (cell e l) w = place-fits (r .shape .base) (r .shape .links) (r .shape .capacity) (length (r .ws)) e (3 + l) (fits .room) (omega (arith, fits .few)) (omega arith)
   spot-fits (landing k q) w = let h = landing-low k q w in omega (arith, fits .below, fits .room)
 
   -- a landing of a lower kind lies below
-  landing-apart : (k q j p : ℕ) → Within r (landing k q) → Within r (landing j p) → k < j → spot (r .shape) (landing k q) < spot (r .shape) (landing j p)
+  landing-apart : (k q j p : ℕ) → Within (r .shape) (r .given) (landing k q) → Within (r .shape) (r .given) (landing j p) → k < j → spot (r .shape) (landing k q) < spot (r .shape) (landing j p)
   landing-apart k q j p w v h =
     let s = fits .stacked k (w .0) in
     let t = fits .stacked j (v .0) in
     let m = sum-more (count (r .shape)) j k h in
     omega arith
 
-  pub spot-own : (t u : Slot) → Within r t → Within r u → spot (r .shape) u ≡ spot (r .shape) t → u ≡ t
+  pub spot-own : (t u : Slot) → Within (r .shape) (r .given) t → Within (r .shape) (r .given) u → spot (r .shape) u ≡ spot (r .shape) t → u ≡ t
   spot-own (cell e l) (cell x y) w v h =
     let a = same-row (r .shape .base) (r .shape .links) e (3 + l) x (3 + y) (omega arith) (omega arith) h in
     let b = same-column (r .shape .base) (r .shape .links) e (3 + l) x (3 + y) (omega arith) (omega arith) h in
@@ -99,10 +104,15 @@ module _ (r : Raw) (fits : Fits r) where
         inl l ↦ absurd (let a = landing-apart j p k q v w l in omega arith)
       | inr l ↦ absurd (let a = landing-apart k q j p w v (omega (arith, e)) in omega arith) ] ]
 
-  -- the same, as the code comes to it
-  pub landing-placed : (t : Slot) (k q : ℕ) → t ≡ landing k q → Within r t →
+  -- no slot lies at another word of an entry
+  pub spot-apart : (t : Slot) → Within (r .shape) (r .given) t → (e j : ℕ) → j < 3 → spot (r .shape) t ≢ place (r .shape .base) (r .shape .links) e j
+  spot-apart (cell x l) w e j h q = omega (arith, same-column (r .shape .base) (r .shape .links) e j x (3 + l) (omega arith) (omega arith) q)
+  spot-apart (landing k p) w e j h q = let m = landing-low k p w in omega (arith, fits .below)
+
+  -- the place of a landing, as the code comes to it
+  pub landing-placed : (t : Slot) (k q : ℕ) → t ≡ landing k q → Within (r .shape) (r .given) t →
     (getD (r .shape .starts) k 0 + q ≡ spot (r .shape) t) × (getD (r .shape .starts) k 0 + q < length (r .ws)) × (getD (r .shape .starts) k 0 + q < r .shape .base)
   landing-placed t k q e w =
-    let v : Within r (landing k q) = subst (Within r) e w in
+    let v : Within (r .shape) (r .given) (landing k q) = subst (Within (r .shape) (r .given)) e w in
     let h = landing-low k q v in
     (ap (spot (r .shape)) (sym e), spot-fits (landing k q) v, omega (arith, fits .below))

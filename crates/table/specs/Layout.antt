@@ -62,14 +62,14 @@ abbrev pub spot : Shape → Slot → ℕ
 spot h (cell e l) = place (h .base) (h .links) e (3 + l)
 spot h (landing k q) = getD (h .starts) k 0 + q
 
--- the slots that have words
-abbrev pub inside : Raw → Slot → Bool
-inside r (cell e l) = ltb e (r .given) && ltb l (r .shape .links)
-inside r (landing k q) = ltb k (r .shape .kinds) && ltb q (count (r .shape) k)
+-- the slots that have words, while so many entries are given
+abbrev pub inside : Shape → ℕ → Slot → Bool
+inside h given (cell e l) = ltb e given && ltb l (h .links)
+inside h given (landing k q) = ltb k (h .kinds) && ltb q (count h k)
 
-abbrev pub Within : Raw → Slot → Type 0
-Within r (cell e l) = (e < r .given) × (l < r .shape .links)
-Within r (landing k q) = (k < r .shape .kinds) × (q < count (r .shape) k)
+abbrev pub Within : Shape → ℕ → Slot → Type 0
+Within h given (cell e l) = (e < given) × (l < h .links)
+Within h given (landing k q) = (k < h .kinds) × (q < count h k)
 
 -- what a slot's word says
 abbrev pub decode : ℕ → Option ℕ
@@ -83,7 +83,7 @@ unfoldable pub forwardOf : Raw → ℕ → ℕ
 forwardOf r = λ e. cond (ltb e (r .given)) (word (r .ws) (r .shape .base) (r .shape .links) e 1) e
 
 unfoldable pub heldOf : Raw → Slot → Option ℕ
-heldOf r = λ t. cond (inside r t) (decode (getD (r .ws) (spot (r .shape) t) 0)) None
+heldOf r = λ t. cond (inside (r .shape) (r .given) t) (decode (getD (r .ws) (spot (r .shape) t) 0)) None
 
 unfoldable pub waitingOf : Raw → List ℕ
 waitingOf r = map (λ i. word (r .ws) (r .shape .base) (r .shape .links) i 2) (counting (r .front) (r .waits))

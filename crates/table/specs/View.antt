@@ -1,8 +1,9 @@
 -- The rows of the code, as words and numbers and as a state of the machine.
+use mathlib.Core.Bool.{Bool}
 use Prim.Native.Nat.{ℕ}
 use denote.Ref.{now}
 use Rattle.machine.specs.State as machine
-use Rattle.table.specs.Layout.{Raw, shown, word, place}
+use Rattle.table.specs.Layout.{Raw, Within, inside, shown, word, place}
 use Rattle.table.specs.declared.rows.Rows.{Rows}
 use Rattle.table.specs.declared.rows.Slot.{Slot}
 use Rattle.table.specs.declared.rows.Slot.the-variants.{Cell, Landing}
@@ -22,6 +23,13 @@ view t = shown (raw t)
 abbrev pub slot : Slot → machine.Slot
 slot (Cell e l) = machine.cell e l
 slot (Landing k r) = machine.landing k r
+
+-- a slot that has a word
+abbrev pub has : Rows → Slot → Bool
+has t u = inside (raw t .shape) (t .given) (slot u)
+
+abbrev pub Has : Rows → Slot → Type 0
+Has t u = Within (raw t .shape) (t .given) (slot u)
 
 -- word j of entry e, and where it lies
 abbrev pub row : Rows → ℕ → ℕ → ℕ

@@ -4,8 +4,9 @@ ghost use Prim.Native.Nat.{ℕ, _+_, _-_, _*_, _<_, _≤_};
 ghost use lib.ListN.{length, getD};
 ghost use Rattle.machine.specs.State.{cell, landing, lives};
 ghost use Rattle.machine.specs.Merging.{end};
-ghost use Rattle.table.specs.Layout.{Fits, Tidy, Within, inside, spot, shown};
-ghost use Rattle.table.specs.View.{raw, view, slot, row};
+ghost use Rattle.table.specs.Layout.{Fits, Tidy, Becomes, spot};
+ghost use Rattle.table.specs.View.{raw, view, slot, has, Has, row};
+ghost use Rattle.table.specs.Writes.{cleared, added};
 ghost use Rattle.table.specs.View as place;
 
 // The source's kinds: of each the number of its records and the place of its first landing.
@@ -63,7 +64,7 @@ impl Rows<'_> {
     // Whether the slot `t` has a word.
     fn has(&self, t: Slot) -> bool
         requires { ⌜ Fits (raw (now self)) ⌝ }
-        ensures { λ r. ⌜ r ≡ inside (raw (now (self .entry))) (slot t) ⌝ }
+        ensures { λ r. ⌜ r ≡ has (now (self .entry)) t ⌝ }
     {
         match t {
             Slot::Cell(e, l) => (e as usize) < self.given && (l as usize) < self.links,
@@ -74,7 +75,7 @@ impl Rows<'_> {
     // The place of the word of the slot `t`.
     fn place(&self, t: Slot) -> usize
         requires { ⌜ Fits (raw (now self)) ⌝ }
-        requires { ⌜ Within (raw (now self)) (slot t) ⌝ }
+        requires { ⌜ Has (now self) t ⌝ }
         ensures is { λ r. ⌜ r ≡ spot (raw (now (self .entry)) .shape) (slot t) ⌝ }
         ensures fits { λ r. ⌜ r < length (now (now (self .entry) .words)) ⌝ }
     {

@@ -8,7 +8,7 @@ pub returns-then-not-has : need.returns-then-not-has
 returns-then-not-has c = held-out (raw (c .args .self .now)) (slot (c .args .t)) (sym (c .if-not-has .ensures tt))
 
 pub place-requires : need.place-requires
-place-requires c κs = (c .pre, inside-true (raw (c .args .self .now)) (slot (c .args .t)) (sym (c .if-not-has .ensures tt)))
+place-requires c κs = (c .pre, inside-true (raw (c .args .self .now) .shape) (c .args .self .now .given) (slot (c .args .t)) (sym (c .if-not-has .ensures tt)))
 
 pub returns-then-w-eq0 : need.returns-then-w-eq0
 returns-then-w-eq0 c = held-none (raw (c .args .self .now)) (slot (c .args .t)) _ (sym (c .if-not-has .ensures tt)) (c .place .ensures .is) (c .if-w-eq0 .taken)
