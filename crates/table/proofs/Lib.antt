@@ -2,3 +2,5 @@ pub mod Places
 pub mod Writes
 pub mod Shown
 pub mod Keeps
+pub mod Reheld
+pub mod Settled
