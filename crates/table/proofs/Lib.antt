@@ -4,3 +4,4 @@ pub mod Shown
 pub mod Keeps
 pub mod Reheld
 pub mod Settled
+pub mod Faults
