@@ -5,3 +5,4 @@ pub mod Keeps
 pub mod Reheld
 pub mod Settled
 pub mod Faults
+pub mod Bridge
