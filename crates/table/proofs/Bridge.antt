@@ -1,23 +1,21 @@
 -- From the machine's laws to the words and back.
 use mathlib.Core.Path.{_≡_, refl, sym, ap, subst, _∙_}
-use mathlib.Core.Bool.{Bool, true, false, cond, _&&_}
-use mathlib.Core.Logic.{_⊎_, inl, inr}
-use mathlib.Core.List.{List, [], _∷_, map}
-use Prim.Native.Nat.{ℕ, zero, suc, _+_, _-_, _≤_, _<_, min}
+use mathlib.Core.Bool.{false}
+use mathlib.Core.Logic.{inl, inr}
+use mathlib.Core.List.{List, [], _∷_}
+use Prim.Native.Nat.{ℕ, _+_, _-_, _<_, min}
 use native.Mathlib.Omega.{arith}
-use lib.Dec.{eqb, ltb}
 use lib.ListN.{length, getD, take, length-take}
-use Rattle.std.specs.declared.option.Option.{Option}
-use Rattle.std.specs.declared.option.Option.the-variants.{Some, None}
+use Rattle.std.specs.declared.option.Option.the-variants.{None}
 use Rattle.std.proofs.shelf.Lists.{ext-getD, getD-take}
 use Rattle.std.proofs.shelf.Tests.{cases-lt, cases-bool}
 use Rattle.std.proofs.shelf.Ways.{tells}
 use Rattle.machine.specs.Loaded.{Loaded}
-use Rattle.machine.specs.State.{Slot, cell, landing, State, start}
+use Rattle.machine.specs.State.{Slot, cell, landing, start}
 use Rattle.machine.specs.Sweeping.{rank}
 use Rattle.machine.specs.Sound.{Mem, Sound}
 use Rattle.machine.proofs.Fill.{some-none}
-use Rattle.table.specs.Layout.{Raw, Shape, Fits, Tidy, Same, Carries, Copied, inside, spot, decode, shown, kindOf, forwardOf, heldOf, waitingOf}
+use Rattle.table.specs.Layout.{Raw, Fits, Tidy, Same, Carries, inside, spot, decode, shown, kindOf, forwardOf, waitingOf}
 use Rattle.table.proofs.Places.{inside-true, landing-low}
 use Rattle.table.proofs.Shown.{same-state, held-in, held-out, waits-are}
 use Rattle.table.proofs.Keeps.{tidy-by}

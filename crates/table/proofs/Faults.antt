@@ -1,9 +1,9 @@
 -- The refusals of the calls that give entries, by the tests of the code.
 use mathlib.Core.Path.{_≡_, refl, sym, ap, _∙_}
-use mathlib.Core.Bool.{Bool, true, false, cond, _&&_}
-use mathlib.Core.Logic.{_≢_, _⊎_, inl, inr}
+use mathlib.Core.Bool.{Bool, true, false, _&&_}
+use mathlib.Core.Logic.{inl, inr}
 use mathlib.Core.List.{List, [], _∷_}
-use Prim.Native.Nat.{ℕ, zero, suc, _+_, _≤_, _<_}
+use Prim.Native.Nat.{ℕ, suc, _+_, _≤_, _<_}
 use native.Mathlib.Omega.{arith}
 use native.Mathlib.Numerals.{add-one}
 use lib.Dec.{eqb, ltb}
@@ -17,12 +17,12 @@ use Rattle.words.specs.declared.faults.Refusal.the-variants as refusal
 use Rattle.machine.specs.Loaded.{Loaded}
 use Rattle.machine.specs.State.{Slot, State, cell, landing, filled, waits, lives, born}
 use Rattle.machine.specs.Sweeping.{rank}
-use Rattle.machine.specs.Calls.{unless, land, define, apply, land-fault, define-fault}
+use Rattle.machine.specs.Calls.{land, define, apply, land-fault, define-fault}
 use Rattle.machine.specs.Tables.{answered}
 use Rattle.std.proofs.shelf.Tests.{ltb-true}
 use Rattle.machine.proofs.Runs.{cond-some, cond-else}
 use Rattle.machine.proofs.Ranks.{rank-live, rank-dead}
-use Rattle.table.specs.Layout.{Raw, Shape, Tidy, Becomes, Carries, Within, inside, shown}
+use Rattle.table.specs.Layout.{Raw, Tidy, Becomes, Carries, Within, inside, shown}
 use Rattle.table.specs.Calls.{give-fault}
 use Rattle.table.proofs.Shown.{waits-are}
 use Rattle.table.proofs.Keeps.{becomes-as, becomes-none}

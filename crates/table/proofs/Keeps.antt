@@ -1,12 +1,9 @@
 -- Each write makes a tidy table of a tidy one, and leaves the copies.
 use mathlib.Core.Path.{_≡_, refl, sym, ap, subst, _∙_}
-use mathlib.Core.Bool.{Bool, true, false, cond, _&&_}
-use mathlib.Core.Logic.{_≢_, _⊎_, inl, inr}
+use mathlib.Core.Logic.{inl, inr}
 use mathlib.Core.List.{List}
-use Prim.Native.Nat.{ℕ, zero, suc, _+_, _-_, _*_, _≤_, _<_}
+use Prim.Native.Nat.{ℕ, suc, _+_, _≤_, _<_}
 use native.Mathlib.Omega.{arith}
-use native.Mathlib.Numerals.{add-one}
-use lib.Dec.{eqb, ltb}
 use lib.ListN.{length, getD, set}
 use Rattle.std.specs.declared.option.Option.{Option}
 use Rattle.std.specs.declared.option.Option.the-variants.{Some, None}
@@ -18,7 +15,7 @@ use Rattle.machine.specs.Settling.{pop}
 use Rattle.machine.specs.Sweeping.{rank}
 use Rattle.machine.proofs.Fill.{some-same, some-none, put-held}
 use Rattle.machine.proofs.Merge.{turned-cases}
-use Rattle.machine.proofs.Ranks.{rank-live, rank-small, rank-after}
+use Rattle.machine.proofs.Ranks.{rank-live, rank-after}
 use Rattle.table.specs.Layout.{Raw, Shape, Fits, Tidy, Same, Becomes, Copied, Within, spot, place, shown, forwardOf, decode}
 use Rattle.table.specs.Writes.{changed, emptied, added}
 use Rattle.table.proofs.Places.{spot-copied, copied-low, within-more}

@@ -1,27 +1,25 @@
 -- One entry in the place of another, in all slots.
-use mathlib.Core.Path.{_≡_, refl, sym, ap, subst, _∙_}
-use mathlib.Core.Bool.{Bool, true, false, cond, _&&_}
-use mathlib.Core.Logic.{_≢_, _⊎_, inl, inr}
+use mathlib.Core.Path.{_≡_, refl, sym, ap, _∙_}
+use mathlib.Core.Bool.{true, false, cond, _&&_}
+use mathlib.Core.Logic.{_⊎_, inl, inr}
 use mathlib.Core.List.{List}
-use Prim.Native.Nat.{ℕ, zero, suc, _+_, _-_, _*_, _≤_, _<_}
+use Prim.Native.Nat.{ℕ, _+_, _-_, _*_, _≤_, _<_}
 use native.Mathlib.Omega.{arith}
 use native.Mathlib.Numerals.{add-one}
 use lib.Dec.{eqb, ltb, leb}
-use lib.ListN.{length, getD, set}
+use lib.ListN.{length, getD}
 use Rattle.std.specs.Iters.{counting}
-use Rattle.std.specs.declared.option.Option.{Option}
-use Rattle.std.specs.declared.option.Option.the-variants.{Some, None}
 use Rattle.std.proofs.shelf.Bits.{mul-le}
 use Rattle.std.proofs.shelf.Tests.{cases-bool}
-use Rattle.std.proofs.shelf.Ways.{tells, eqb-tells, leb-tells}
-use Rattle.machine.specs.State.{Slot, cell, landing, State}
+use Rattle.std.proofs.shelf.Ways.{tells, eqb-tells}
+use Rattle.machine.specs.State.{Slot, cell, landing}
 use Rattle.machine.specs.Settling.{swap, rehold}
 use Rattle.machine.proofs.Settle.{swap-held}
-use Rattle.table.specs.Layout.{Raw, Fits, Tidy, Same, Becomes, Copied, Within, inside, spot, place, word, decode, shown, kindOf, forwardOf, heldOf, waitingOf}
+use Rattle.table.specs.Layout.{Raw, Fits, Tidy, Becomes, Copied, Within, inside, spot, place, word, decode, shown, kindOf, forwardOf, waitingOf}
 use Rattle.table.specs.Writes.{changed, changed-rows, swapped, over}
 use Rattle.table.proofs.Places.{inside-true, landing-low, copied-low}
 use Rattle.table.proofs.Writes.{length-changed, length-rows, changed-kept, getD-changed, rows-low, word-rows}
-use Rattle.table.proofs.Shown.{same-state, with, held-in, held-out, map-same}
+use Rattle.table.proofs.Shown.{same-state, held-in, held-out, map-same}
 use Rattle.table.proofs.Keeps.{tidy-by, fits-with}
 
 pub decode-swapped : (v u w : ℕ) → decode (swapped (v + 1) (u + 1) w) ≡ swap v u (decode w)

@@ -1,6 +1,6 @@
 // A table in lent work words, as rows of words. Nothing here is an invariant: each function says what it needs.
 ghost use mathlib.Core.Path.{_≡_};
-ghost use Prim.Native.Nat.{ℕ, _+_, _-_, _*_, _<_, _≤_};
+ghost use Prim.Native.Nat.{_+_, _-_, _*_, _<_, _≤_};
 ghost use lib.ListN.{length, getD};
 ghost use Rattle.machine.specs.State.{cell, landing, lives, hold, born};
 ghost use Rattle.machine.specs.Merging.{end, die};

@@ -1,7 +1,7 @@
 // The calls that give entries, with their refusals.
 ghost use mathlib.Core.Path.{_≡_};
-ghost use mathlib.Core.Bool.{Bool, _&&_};
-ghost use Prim.Native.Nat.{ℕ, _+_, _-_, _*_, _<_, _≤_};
+ghost use mathlib.Core.Bool.{_&&_};
+ghost use Prim.Native.Nat.{_<_};
 ghost use lib.Dec.{eqb, ltb};
 ghost use Rattle.std.specs.declared.option.Option.the-variants.{None};
 ghost use Rattle.machine.specs.Loaded.{Loaded};

@@ -1,6 +1,6 @@
 // Merging, and settling the first that waits.
 ghost use mathlib.Core.Path.{_≡_};
-ghost use Prim.Native.Nat.{ℕ, _+_, _-_, _*_, _<_, _≤_};
+ghost use Prim.Native.Nat.{_+_, _<_, _≤_};
 ghost use lib.ListN.{length, getD};
 ghost use Rattle.machine.specs.Loaded.{Loaded};
 ghost use Rattle.machine.specs.Merging.{merge};

@@ -1,5 +1,5 @@
 use native.Mathlib.Omega.{arith}
-use Rattle.table.specs.View.{raw, slot}
+use Rattle.table.specs.View.{slot}
 use Rattle.table.proofs.Keeps.{within-kept, added-more, becomes-born}
 use Rattle.table.proofs.rows.Rows.born.Needs as need
 

@@ -1,9 +1,9 @@
-use mathlib.Core.Path.{_≡_, ap, _∙_}
+use mathlib.Core.Path.{ap, _∙_}
 use native.Mathlib.Omega.{arith}
 use native.Mathlib.Numerals.{add-one}
 use Rattle.machine.specs.State.{State}
 use Rattle.machine.specs.Settling.{pull, drain}
-use Rattle.table.specs.Layout.{Becomes, Shape}
+use Rattle.table.specs.Layout.{Shape}
 use Rattle.table.specs.View.{raw, view}
 use Rattle.table.proofs.Keeps.{becomes-as, becomes-then, becomes-none}
 use Rattle.table.proofs.Settled.{drain-on, drain-none, drain-more}

@@ -1,5 +1,4 @@
 use mathlib.Core.Path.{ap}
-use native.Mathlib.Omega.{arith}
 use borrow.Author.Needs.{needs}
 use Rattle.table.specs.View.{raw, slot}
 use Rattle.table.proofs.Places.{landing-placed}
