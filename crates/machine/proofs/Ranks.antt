@@ -44,7 +44,7 @@ module _ (f : ℕ → ℕ) (h l : ℕ) where
         ]
       ]
 
-  rank-after : f h ≡ h → l < h → (n : ℕ) → h < n → suc (rank (turned f h l) n) ≡ rank f n
+  pub rank-after : f h ≡ h → l < h → (n : ℕ) → h < n → suc (rank (turned f h l) n) ≡ rank f n
   unfolding rank
   rank-after alive less zero q = absurd (omega (arith, q))
   rank-after alive less (suc n) q =

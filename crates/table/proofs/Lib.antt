@@ -1,0 +1,8 @@
+pub mod Places
+pub mod Writes
+pub mod Shown
+pub mod Keeps
+pub mod Reheld
+pub mod Settled
+pub mod Faults
+pub mod Bridge

@@ -1,0 +1,4 @@
+pub mod Layout
+pub mod Writes
+pub mod Calls
+pub mod View

@@ -1,0 +1,2 @@
+// A coset table over lent work words.
+mod rows;
