@@ -15,6 +15,10 @@ mod register_tables;
 #[cfg(test)]
 mod register_tests;
 #[cfg(test)]
+mod word_tables;
+#[cfg(test)]
+mod word_tests;
+#[cfg(test)]
 mod write_tables;
 #[cfg(test)]
 mod write_tests;
