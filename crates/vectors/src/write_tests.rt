@@ -77,6 +77,7 @@ fn writes_loose(heap: Global, table: &[LooseWritten]) -> Result<(), Fail> {
     for case in table {
         let words = built(heap, case.1)?;
         writes(heap, &case.0, &words)?;
+        is_in(heap, &case.0, &words)?;
     }
     Ok(())
 }
@@ -100,6 +101,7 @@ fn writes_blank(heap: Global, table: &[BlankWritten]) -> Result<(), Fail> {
         let mut held = Held::new();
         check_eq(held.take(case.0), Ok(()))?;
         writes(heap, &Blank::over(held), case.1)?;
+        is_in(heap, &Blank::over(held), case.1)?;
     }
     Ok(())
 }
