@@ -1,4 +1,7 @@
 // What registers answer.
+use crate::register_tables::WHOLE;
+use words::faults::Fault;
+use words::faults::Refusal;
 
 // A question and its answer.
 #[derive(Clone, Copy)]
@@ -25,9 +28,9 @@ pub const NOTHING: [Ask; 10] = [
 ];
 
 // A link from a kind of two records to a kind of one.
-pub const PAIR: [u32; 7] = [0x80000002, 0x90000002, 0x90000001, 0xA0000001, 0xB0000000, 0xB0000000, 0x70000006];
+const PAIR: [u32; 7] = [0x80000002, 0x90000002, 0x90000001, 0xA0000001, 0xB0000000, 0xB0000000, 0x70000006];
 
-pub const PAIR_HELD: [Ask; 21] = [
+const PAIR_HELD: [Ask; 21] = [
     Ask::Kinds(2),
     Ask::Links(1),
     Ask::Ends(0, Some((0, 1))),
@@ -52,7 +55,7 @@ pub const PAIR_HELD: [Ask; 21] = [
 ];
 
 // Two kinds of 2 and 3 records, a link each way, and landings, which are no part of the answers.
-pub const BOTH_WAYS_HELD: [Ask; 16] = [
+const BOTH_WAYS_HELD: [Ask; 16] = [
     Ask::Kinds(2),
     Ask::Links(2),
     Ask::Ends(0, Some((0, 1))),
@@ -72,7 +75,7 @@ pub const BOTH_WAYS_HELD: [Ask; 16] = [
 ];
 
 // A wheel of 6 with the steps 2, 5.
-pub const WHEEL: [Ask; 36] = [
+const WHEEL: [Ask; 36] = [
     Ask::Kinds(1),
     Ask::Links(2),
     Ask::Ends(0, Some((0, 0))),
@@ -112,7 +115,7 @@ pub const WHEEL: [Ask; 36] = [
 ];
 
 // A wheel of 0 with the step 1.
-pub const WHEEL_OF_NONE: [Ask; 7] = [
+const WHEEL_OF_NONE: [Ask; 7] = [
     Ask::Kinds(1),
     Ask::Links(1),
     Ask::Ends(0, Some((0, 0))),
@@ -123,7 +126,7 @@ pub const WHEEL_OF_NONE: [Ask; 7] = [
 ];
 
 // The steps 1 to 6, 65535, 8, 9 on a wheel of 6: the ninth is not used.
-pub const WHEEL_OF_STEPS: [Ask; 12] = [
+const WHEEL_OF_STEPS: [Ask; 12] = [
     Ask::Links(8),
     Ask::Ends(7, Some((0, 0))),
     Ask::Ends(8, None),
@@ -139,7 +142,7 @@ pub const WHEEL_OF_STEPS: [Ask; 12] = [
 ];
 
 // The largest wheel, with the steps 65535, 1, 65534.
-pub const LARGEST_WHEEL: [Ask; 8] = [
+const LARGEST_WHEEL: [Ask; 8] = [
     Ask::Count(0, 65535),
     Ask::Follow(0, 0, Some(0)),
     Ask::Follow(0, 65534, Some(65534)),
@@ -186,7 +189,7 @@ pub const FOUR_BLANK_BLANK: [Ask; 9] = [
     Ask::Follow(1, 0, None),
 ];
 
-// Four layers over it: nothing is left, and a count of 0 stays 0; then a fifth.
+// Four layers over it, or over a wheel of 3: nothing is left, and a count of 0 stays 0.
 pub const FOUR_GONE: [Ask; 6] = [
     Ask::Kinds(1),
     Ask::Links(1),
@@ -218,4 +221,32 @@ pub const WHEEL_BLANK_BLANK: [Ask; 6] = [
     Ask::Follow(0, 0, None),
     Ask::Follow(0, 1, None),
     Ask::Follow(0, u32::MAX, None),
+];
+
+// A file that a held register is given, the fault if it is refused, and the answers then.
+#[derive(Clone, Copy)]
+pub struct Take(pub &'static [u32], pub Option<Fault>, pub &'static [Ask]);
+
+// One after another, to one held register that took nothing before.
+pub const TAKES: [Take; 8] = [
+    Take(&[], Some(Fault { refusal: Refusal::Missing, place: 0 }), &NOTHING),
+    Take(&PAIR, None, &PAIR_HELD),
+    Take(&[0x80000021], Some(Fault { refusal: Refusal::Limit, place: 0 }), &PAIR_HELD),
+    Take(&[0x80000001, 0x90000009, 0x70000003], Some(Fault { refusal: Refusal::Wrong, place: 2 }), &PAIR_HELD),
+    Take(&[0x80000000, 0xA0000000, 0x70000002], Some(Fault { refusal: Refusal::Unknown, place: 1 }), &PAIR_HELD),
+    Take(&WHOLE, None, &BOTH_WAYS_HELD),
+    Take(&[0x80000001, 0x90000009], Some(Fault { refusal: Refusal::Missing, place: 2 }), &BOTH_WAYS_HELD),
+    Take(&[0x80000000, 0x70000001], None, &NOTHING),
+];
+
+// A wheel's size, its steps, and its answers.
+#[derive(Clone, Copy)]
+pub struct Turns(pub u16, pub &'static [u16], pub &'static [Ask]);
+
+pub const WHEELS: [Turns; 5] = [
+    Turns(6, &[2, 5], &WHEEL),
+    Turns(0, &[1], &WHEEL_OF_NONE),
+    Turns(6, &[1, 2, 3, 4, 5, 6, 65535, 8, 9], &WHEEL_OF_STEPS),
+    Turns(6, &[1, 2, 3, 4, 5, 6, 65535, 8], &WHEEL_OF_STEPS),
+    Turns(65535, &[65535, 1, 65534], &LARGEST_WHEEL),
 ];

@@ -270,3 +270,48 @@ pub const TAKEN: [Taken; 13] = [
     Taken(&[Run(0x10000001, 0, 1), Run(0x10000101, 0, 1), Run(0x20000000, 0, 1), Run(0x30004040, 0, 1), Run(0x40000000, 0, 128), Run(0x50000000, 0, 1), Run(0x70000085, 0, 1)], [1, 0, 1, 1, 1, 2, 1, 132]),
     Taken(&[Run(0x10000001, 0, 1), Run(0x20000000, 0, 1), Run(0x10000101, 0, 1), Run(0x20000000, 0, 1), Run(0x50000000, 0, 1), Run(0x60000040, 0, 1), Run(0x40000000, 0, 64), Run(0x70000046, 0, 1)], [1, 1, 1, 1, 1, 3, 0, 4]),
 ];
+
+// The number of a rule; its first kind, its place, its left length and its right length, unless there is none.
+#[derive(Clone, Copy)]
+pub struct ShownRule(pub usize, pub Option<(u32, usize, usize, usize)>);
+
+// The number of a link map; its place and its length, unless there is none.
+#[derive(Clone, Copy)]
+pub struct ShownMap(pub usize, pub Option<(usize, usize)>);
+
+// The rules and the link maps of the whole file above.
+pub const RULES: [ShownRule; 7] = [
+    ShownRule(0, Some((0, 6, 4, 2))),
+    ShownRule(1, Some((1, 13, 0, 2))),
+    ShownRule(2, Some((0, 16, 0, 0))),
+    ShownRule(3, None),
+    ShownRule(127, None),
+    ShownRule(128, None),
+    ShownRule(usize::MAX, None),
+];
+
+pub const MAPS: [ShownMap; 6] = [
+    ShownMap(0, Some((19, 1))),
+    ShownMap(1, Some((21, 3))),
+    ShownMap(2, None),
+    ShownMap(63, None),
+    ShownMap(64, None),
+    ShownMap(usize::MAX, None),
+];
+
+// Some of those of the largest problem.
+pub const LARGEST_RULES: [ShownRule; 5] = [
+    ShownRule(0, Some((31, 130, 64, 64))),
+    ShownRule(1, Some((31, 259, 64, 64))),
+    ShownRule(127, Some((31, 16513, 64, 64))),
+    ShownRule(128, None),
+    ShownRule(usize::MAX, None),
+];
+
+pub const LARGEST_MAPS: [ShownMap; 5] = [
+    ShownMap(0, Some((16674, 64))),
+    ShownMap(1, Some((16739, 64))),
+    ShownMap(63, Some((20769, 64))),
+    ShownMap(64, None),
+    ShownMap(usize::MAX, None),
+];

@@ -12,11 +12,17 @@ use crate::files::refuses_worded;
 use crate::problem_tables::FORMAT;
 use crate::problem_tables::FORMAT_EDITS;
 use crate::problem_tables::GGG;
+use crate::problem_tables::LARGEST_MAPS;
+use crate::problem_tables::LARGEST_RULES;
 use crate::problem_tables::LIMITS;
+use crate::problem_tables::MAPS;
 use crate::problem_tables::MAP_EDITS;
 use crate::problem_tables::REFUSED;
+use crate::problem_tables::RULES;
 use crate::problem_tables::RULE_EDITS;
 use crate::problem_tables::SCHEMA_EDITS;
+use crate::problem_tables::ShownMap;
+use crate::problem_tables::ShownRule;
 use crate::problem_tables::TAKEN;
 use crate::problem_tables::Taken;
 use crate::problem_tables::WHOLE;
@@ -99,64 +105,61 @@ fn takes_problems(rt: LibcRuntime) -> Result<(), Fail> {
     check_eq(outline(&WHOLE), Some([2, 2, 1, 2, 2, 4, 3, 17]))
 }
 
-// The rule of that number has that first kind, place, left side and right side.
-fn has_rule(words: &[u32], found: &Found, i: usize, first: u32, at: usize, sides: (&[u32], &[u32])) -> Result<(), Fail> {
-    match rule_at(words, found, i) {
-        Some(Token::Rule { first: kind, left, right, place }) => {
-            check_eq((i, kind, place), (i, first, at))?;
-            check_eq((left, right), sides)
+// So many words from a place on; none if there are fewer.
+fn part(words: &[u32], at: usize, n: usize) -> &[u32] {
+    if at <= words.len() && n <= words.len() - at { &words[at..at + n] } else { &[] }
+}
+
+// The token of a rule: its first kind, its place, and its sides, which are the next words.
+fn shows_rule(words: &[u32], found: &Found, case: ShownRule) -> Result<(), Fail> {
+    match (rule_at(words, found, case.0), case.1) {
+        (Some(Token::Rule { first, left, right, place }), Some((kind, at, m, n))) => {
+            check_eq((first, place, left.len(), right.len()), (kind, at, m, n))?;
+            let start = at.saturating_add(1);
+            check_eq((left, right), (part(words, start, m), part(words, start.saturating_add(m), n)))
         }
-        _ => Err(Fail::new("no rule")),
+        (None, None) => Ok(()),
+        _ => Err(Fail::new("another token, or none")),
     }
 }
 
-// The link map of that number has that place and path.
-fn has_map(words: &[u32], found: &Found, i: usize, at: usize, steps: &[u32]) -> Result<(), Fail> {
-    match link_map_at(words, found, i) {
-        Some(Token::LinkMap { link, path, place }) => {
-            check_eq((link as usize, place), (i, at))?;
-            check_eq(path, steps)
+fn shows_rules(words: &[u32], found: &Found, table: &[ShownRule]) -> Result<(), Fail> {
+    for case in table {
+        shows_rule(words, found, *case)?;
+    }
+    Ok(())
+}
+
+// The token of a link map: its number, its place, and its path, which is the next words.
+fn shows_map(words: &[u32], found: &Found, case: ShownMap) -> Result<(), Fail> {
+    match (link_map_at(words, found, case.0), case.1) {
+        (Some(Token::LinkMap { link, path, place }), Some((at, n))) => {
+            check_eq((link as usize, place, path.len()), (case.0, at, n))?;
+            check_eq(path, part(words, at.saturating_add(1), n))
         }
-        _ => Err(Fail::new("no link map")),
+        (None, None) => Ok(()),
+        _ => Err(Fail::new("another token, or none")),
     }
 }
 
-// The steps a and b.
-const A: u32 = 0x40000000;
+fn shows_maps(words: &[u32], found: &Found, table: &[ShownMap]) -> Result<(), Fail> {
+    for case in table {
+        shows_map(words, found, *case)?;
+    }
+    Ok(())
+}
 
-const B: u32 = 0x40000001;
-
-#[test]
-fn shows_tokens() -> Result<(), Fail> {
-    let Ok(found) = read_problem(&WHOLE) else {
+fn shows_all(words: &[u32], rules: &[ShownRule], maps: &[ShownMap]) -> Result<(), Fail> {
+    let Ok(found) = read_problem(words) else {
         return Err(Fail::new("refused"));
     };
-    has_rule(&WHOLE, &found, 0, 0, 6, (&[A, B, A, B], &[A, B]))?;
-    has_rule(&WHOLE, &found, 1, 1, 13, (&[], &[B, A]))?;
-    has_rule(&WHOLE, &found, 2, 0, 16, (&[], &[]))?;
-    check(rule_at(&WHOLE, &found, 3).is_none())?;
-    check(rule_at(&WHOLE, &found, 128).is_none())?;
-    check(rule_at(&WHOLE, &found, usize::MAX).is_none())?;
-    has_map(&WHOLE, &found, 0, 19, &[B])?;
-    has_map(&WHOLE, &found, 1, 21, &[A, B, A])?;
-    check(link_map_at(&WHOLE, &found, 2).is_none())?;
-    check(link_map_at(&WHOLE, &found, 64).is_none())?;
-    check(link_map_at(&WHOLE, &found, usize::MAX).is_none())
+    shows_rules(words, &found, rules)?;
+    shows_maps(words, &found, maps)
 }
 
-// The rules and the link maps of the largest problem, the first and the last.
 #[test]
-fn shows_last_tokens(rt: LibcRuntime) -> Result<(), Fail> {
+fn shows_tokens(rt: LibcRuntime) -> Result<(), Fail> {
+    shows_all(&WHOLE, &RULES, &MAPS)?;
     let words = largest(rt.alloc())?;
-    let Ok(found) = read_problem(&words) else {
-        return Err(Fail::new("refused"));
-    };
-    let mut steps = Vec::new(rt.alloc());
-    push_runs(&mut steps, &[Run(0x40000000, 1, 64)])?;
-    has_rule(&words, &found, 0, 31, 130, (&steps, &steps))?;
-    has_rule(&words, &found, 127, 31, 130 + 127 * 129, (&steps, &steps))?;
-    check(rule_at(&words, &found, 128).is_none())?;
-    has_map(&words, &found, 0, 16674, &steps)?;
-    has_map(&words, &found, 63, 16674 + 63 * 65, &steps)?;
-    check(link_map_at(&words, &found, 64).is_none())
+    shows_all(&words, &LARGEST_RULES, &LARGEST_MAPS)
 }

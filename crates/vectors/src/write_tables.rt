@@ -131,3 +131,11 @@ pub const WHEELS: [Turned; 10] = [
     Turned(7, &[0, 1, 2, 3, 4, 5, 6, 65535, 9]),
     Turned(65535, &[65535, 1]),
 ];
+
+// The wheel of 3 with the step 1.
+pub const THREE: [u32; 7] = [0x80000001, 0x90000003, 0xA0000000, 0xB0000001, 0xB0000002, 0xB0000000, 0x70000006];
+
+// One layer and two layers over a wheel of 3 with the step 0.
+pub const STILL: [u32; 6] = [0x80000001, 0x90000002, 0xA0000000, 0xB0000000, 0xB0000001, 0x70000005];
+
+pub const STILLER: [u32; 5] = [0x80000001, 0x90000001, 0xA0000000, 0xB0000000, 0x70000004];

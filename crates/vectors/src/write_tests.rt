@@ -13,7 +13,10 @@ use crate::write_tables::Landed;
 use crate::write_tables::LooseRefused;
 use crate::write_tables::LooseWritten;
 use crate::write_tables::SAME;
+use crate::write_tables::STILL;
+use crate::write_tables::STILLER;
 use crate::write_tables::Same;
+use crate::write_tables::THREE;
 use crate::write_tables::Turned;
 use crate::write_tables::WHEELS;
 use registers::blank::Blank;
@@ -120,10 +123,14 @@ fn refuses_blank(heap: Global, table: &[BlankRefused]) -> Result<(), Fail> {
 #[test]
 fn writes_blank_layers(rt: LibcRuntime) -> Result<(), Fail> {
     writes_blank(rt.alloc(), &BLANK_WRITTEN)?;
-    refuses_blank(rt.alloc(), &BLANK_REFUSED)?;
+    refuses_blank(rt.alloc(), &BLANK_REFUSED)
+}
+
+#[test]
+fn writes_blank_over_wheel(rt: LibcRuntime) -> Result<(), Fail> {
     let still = Blank::over(Wheel::new(3, &[0]));
-    writes(rt.alloc(), &still, &[0x80000001, 0x90000002, 0xA0000000, 0xB0000000, 0xB0000001, 0x70000005])?;
-    writes(rt.alloc(), &Blank::over(still), &[0x80000001, 0x90000001, 0xA0000000, 0xB0000000, 0x70000004])?;
+    writes(rt.alloc(), &still, &STILL)?;
+    writes(rt.alloc(), &Blank::over(still), &STILLER)?;
     refuses(rt.alloc(), &Blank::over(Wheel::new(3, &[0, 1])), 9, Refusal::Leads, 1)?;
     refuses(rt.alloc(), &Blank::over(Wheel::new(3, &[1])), 0, Refusal::Leads, 0)
 }
@@ -204,11 +211,15 @@ fn wheels_come_back(heap: Global, table: &[Turned]) -> Result<(), Fail> {
 }
 
 #[test]
-fn reads_back(rt: LibcRuntime) -> Result<(), Fail> {
-    let wheel = [0x80000001, 0x90000003, 0xA0000000, 0xB0000001, 0xB0000002, 0xB0000000, 0x70000006];
-    writes(rt.alloc(), &Wheel::new(3, &[1]), &wheel)?;
-    wheels_come_back(rt.alloc(), &WHEELS)?;
-    comes_back(rt.alloc(), &Blank::over(Wheel::new(6, &[0, 6])), 15)?;
-    comes_back(rt.alloc(), &Blank::over(Blank::over(Wheel::new(6, &[0, 6]))), 13)?;
+fn wheels_are_read_back(rt: LibcRuntime) -> Result<(), Fail> {
+    writes(rt.alloc(), &Wheel::new(3, &[1]), &THREE)?;
+    wheels_come_back(rt.alloc(), &WHEELS)
+}
+
+#[test]
+fn layers_are_read_back(rt: LibcRuntime) -> Result<(), Fail> {
+    let still = Blank::over(Wheel::new(6, &[0, 6]));
+    comes_back(rt.alloc(), &still, 15)?;
+    comes_back(rt.alloc(), &Blank::over(still), 13)?;
     comes_back(rt.alloc(), &Blank::over(Held::new()), 2)
 }
