@@ -2,3 +2,8 @@ pub mod Places
 pub mod Writes
 pub mod Shown
 pub mod Keeps
+pub mod LoadLists
+pub mod LoadCopies
+pub mod LoadSource
+pub mod LoadWords
+pub mod LoadKept

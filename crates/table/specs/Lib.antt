@@ -1,3 +1,5 @@
 pub mod Layout
 pub mod Writes
 pub mod View
+pub mod LoadedWords
+pub mod Taking
