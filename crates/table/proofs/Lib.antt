@@ -9,3 +9,8 @@ pub mod Bridge
 pub mod SweepStates
 pub mod SweepSteps
 pub mod SweepMoves
+pub mod LoadLists
+pub mod LoadCopies
+pub mod LoadSource
+pub mod LoadWords
+pub mod LoadKept

@@ -3,3 +3,5 @@ pub mod Writes
 pub mod Calls
 pub mod View
 pub mod Sweeps
+pub mod LoadedWords
+pub mod Taking
