@@ -2,3 +2,4 @@ pub mod Places
 pub mod Writes
 pub mod Shown
 pub mod Keeps
+pub mod Walks

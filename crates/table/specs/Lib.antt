@@ -1,3 +1,4 @@
 pub mod Layout
 pub mod Writes
 pub mod View
+pub mod Walks

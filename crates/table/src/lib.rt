@@ -1,2 +1,4 @@
 // A coset table over lent work words.
+mod checking;
 mod rows;
+mod walking;
