@@ -13,7 +13,7 @@ use Rattle.std.proofs.shelf.Tests.{cases-lt, cases-eq}
 use Rattle.std.proofs.shelf.Ways.{tells, eqb-tells}
 use Rattle.machine.specs.Loading.{sum}
 use Rattle.machine.specs.State.{Slot, cell, landing}
-use Rattle.table.specs.Layout.{Raw, Fits, Shape, Within, inside, count, spot, place, word}
+use Rattle.table.specs.Layout.{Raw, Fits, Shape, Copied, Within, inside, count, spot, place, word}
 
 pub place-fits : (base links capacity n e j : ℕ) → base + capacity * (links + 3) ≤ n → e < capacity → j < links + 3 → place base links e j < n
 place-fits base links capacity n e j room he hj = omega (arith, mul-add-lt e (links + 3) j capacity he hj)
@@ -67,11 +67,16 @@ module _ (h : Shape) (given : ℕ) where
   within-true (cell e l) w = grind (arith, tells)
   within-true (landing k q) w = grind (arith, tells)
 
-  pub within-more : (t : Slot) → Within h given t → Within h (given + 1) t
-  within-more (cell e l) w = (omega arith, w .1)
-  within-more (landing k q) w = w
+-- a slot that has a word keeps it while entries are added
+pub within-more : (h : Shape) (t : Slot) (m n : ℕ) → m ≤ n → Within h m t → Within h n t
+within-more h (cell e l) m n le w = (omega arith, w .1)
+within-more h (landing k q) m n le w = w
 
 module _ (r : Raw) (fits : Fits r) where
+  pub copied-low : (i : ℕ) → Copied (r .shape) i → i < r .shape .base
+  copied-low i (inl c) = omega (arith, fits .below)
+  copied-low i (inr c) = c .1
+
   -- a landing lies between the problem and the source's answers
   pub landing-low : (k q : ℕ) → Within (r .shape) (r .given) (landing k q) → (r .shape .lands ≤ spot (r .shape) (landing k q)) × (spot (r .shape) (landing k q) < r .shape .lands + r .shape .records)
   landing-low k q w =
@@ -108,6 +113,12 @@ module _ (r : Raw) (fits : Fits r) where
   pub spot-apart : (t : Slot) → Within (r .shape) (r .given) t → (e j : ℕ) → j < 3 → spot (r .shape) t ≢ place (r .shape .base) (r .shape .links) e j
   spot-apart (cell x l) w e j h q = omega (arith, same-column (r .shape .base) (r .shape .links) e j x (3 + l) (omega arith) (omega arith) q)
   spot-apart (landing k p) w e j h q = let m = landing-low k p w in omega (arith, fits .below)
+
+  -- nor at a copied word
+  pub spot-copied : (t : Slot) → Within (r .shape) (r .given) t → (i : ℕ) → Copied (r .shape) i → i ≢ spot (r .shape) t
+  spot-copied (cell x l) w i c q = omega (arith, copied-low i c)
+  spot-copied (landing k p) w i (inl c) q = let m = landing-low k p w in omega arith
+  spot-copied (landing k p) w i (inr c) q = let m = landing-low k p w in omega arith
 
   -- the place of a landing, as the code comes to it
   pub landing-placed : (t : Slot) (k q : ℕ) → t ≡ landing k q → Within (r .shape) (r .given) t →

@@ -1,4 +1,4 @@
+pub mod Walks
 pub mod Layout
 pub mod Writes
 pub mod View
-pub mod Walks

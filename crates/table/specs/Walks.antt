@@ -1,7 +1,7 @@
 -- The walks and effects of the code, as those of the machine.
 use mathlib.Core.Bool.{cond}
 use mathlib.Core.List.{List, map}
-use Prim.Native.Nat.{ℕ, zero, suc}
+use Prim.Native.Nat.{ℕ, zero, suc, _<_}
 use lib.Dec.{eqb}
 use Rattle.std.specs.declared.option.Option.{Option}
 use Rattle.std.specs.declared.option.Option.the-variants.{Some, None}
@@ -9,6 +9,7 @@ use Rattle.words.specs.Words.{fields}
 use Rattle.machine.specs.State as machine
 use Rattle.machine.specs.Walking.{Walked, ended, stopped}
 use Rattle.machine.specs.Checking as check
+use Rattle.table.specs.Layout.{Raw, Within}
 use Rattle.table.specs.View.{slot}
 use Rattle.table.specs.declared.walking.Side.{Side}
 use Rattle.table.specs.declared.walking.Side.the-variants.{End, Gap, Far}
@@ -56,3 +57,10 @@ shown-effect Closed = check.closed
 shown-effect (Merges a b) = check.merges a b
 shown-effect (Fills t a) = check.fills (slot t) a
 shown-effect Stuck = check.stuck
+
+-- the entries and the slot that an effect names are there
+abbrev pub Named : Raw → check.Effect → Type 0
+Named r check.closed = Unit {0}
+Named r (check.merges a b) = (a < r .given) × (b < r .given)
+Named r (check.fills t a) = Within (r .shape) (r .given) t × (a < r .given)
+Named r check.stuck = Unit {0}

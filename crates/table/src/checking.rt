@@ -1,15 +1,17 @@
-// What a check finds, by its two sides.
+// Checks: what their two sides come to, and doing it.
 ghost use mathlib.Core.Path.{_≡_};
 ghost use mathlib.Core.List.{[]};
 ghost use Rattle.machine.specs.State.{landing};
 ghost use Rattle.machine.specs.Walking.{walk, walk-in};
-ghost use Rattle.machine.specs.Checking.{sides};
-ghost use Rattle.table.specs.Layout.{Fits};
+ghost use Rattle.machine.specs.Checking.{sides, effect};
+ghost use Rattle.machine.specs.Tables.{outcome};
+ghost use Rattle.table.specs.Layout.{Fits, Tidy, Becomes};
 ghost use Rattle.table.specs.View.{raw, view};
-ghost use Rattle.table.specs.Walks.{links, found, shown-side, shown-effect};
+ghost use Rattle.table.specs.Walks.{links, found, shown-side, shown-effect, Named};
 use crate::rows::Rows;
 use crate::rows::Slot;
 use crate::walking::Side;
+use machine::answers::Outcome;
 
 // What a check is to do: nothing, since it closes; merge two entries; fill a slot; or nothing, since too much is missing.
 #[derive(Clone, Copy)]
@@ -48,5 +50,26 @@ impl Rows<'_> {
         ensures { λ r. ⌜ shown-effect r ≡ sides (walk-in (view (now (self .entry)) .held) (landing to led) []) (walk-in (view (now (self .entry)) .held) (landing from q) (links (now (path .entry)))) ⌝ }
     {
         sides(self.side_in(Slot::Landing(to, led), &[]), self.side_in(Slot::Landing(from, q), path))
+    }
+
+    // Does what a check found, and tells its outcome.
+    pub fn act(&mut self, what: Effect) -> Outcome
+        requires { ⌜ Tidy (raw (now self)) ⌝ }
+        requires { ⌜ Named (raw (now self)) (shown-effect what) ⌝ }
+        ensures told { λ r. ⌜ r ≡ outcome (shown-effect what) ⌝ }
+        ensures after { λ _. ⌜ Becomes (raw (now (self .entry))) (effect (shown-effect what)) (raw (now (self .exit))) ⌝ }
+    {
+        match what {
+            Effect::Closed => Outcome::Closed,
+            Effect::Merges(a, b) => {
+                self.merge(a, b);
+                Outcome::Merged
+            }
+            Effect::Fills(t, a) => {
+                self.fill(t, a);
+                Outcome::Filled
+            }
+            Effect::Stuck => Outcome::Stopped,
+        }
     }
 }
