@@ -1,3 +1,4 @@
+pub mod Standing
 pub mod Walks
 pub mod Named
 pub mod Places

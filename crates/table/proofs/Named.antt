@@ -13,20 +13,24 @@ use Rattle.machine.proofs.Check.{on-cases}
 use Rattle.table.specs.Layout.{Raw, Tidy, Within, shown}
 use Rattle.table.specs.Walks.{Named}
 
+-- the links of a path are below a number
+abbrev pub Below : ℕ → List ℕ → Type 0
+Below n = All (λ l. l < n)
+
 -- a walk ends at a given entry, or stops before a slot that has a word
 abbrev pub Comes : Raw → Walked → Type 0
 Comes r (ended a) = a < r .given
 Comes r (stopped t n) = Within (r .shape) (r .given) t
 
 module _ (r : Raw) (tidy : Tidy r) where
-  pub walk-comes : (ls : List ℕ) (e : ℕ) → e < r .given → All (λ l. l < r .shape .links) ls → Comes r (walk (shown r .held) e ls)
+  pub walk-comes : (ls : List ℕ) (e : ℕ) → e < r .given → Below (r .shape .links) ls → Comes r (walk (shown r .held) e ls)
   unfolding walk
   walk-comes [] e h b = h
   walk-comes (l ∷ ls) e h b = on-cases (Comes r) (shown r .held (cell e l)) (stopped (cell e l) (length ls)) (λ w. walk (shown r .held) w ls)
     (λ q. (h, b .0))
     (λ w q. walk-comes ls w (tidy .given (cell e l) w q) (b .1))
 
-  pub walk-in-comes : (ls : List ℕ) (t : Slot) → Within (r .shape) (r .given) t → All (λ l. l < r .shape .links) ls → Comes r (walk-in (shown r .held) t ls)
+  pub walk-in-comes : (ls : List ℕ) (t : Slot) → Within (r .shape) (r .given) t → Below (r .shape .links) ls → Comes r (walk-in (shown r .held) t ls)
   walk-in-comes ls t h b = on-cases (Comes r) (shown r .held t) (stopped t (length ls)) (λ w. walk (shown r .held) w ls)
     (λ q. h)
     (λ w q. walk-comes ls w (tidy .given t w q) b)

@@ -1,4 +1,5 @@
 // A coset table over lent work words.
 mod checking;
+mod paths;
 mod rows;
 mod walking;
