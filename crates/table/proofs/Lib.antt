@@ -7,3 +7,5 @@ pub mod Shown
 pub mod Keeps
 pub mod Reheld
 pub mod Settled
+pub mod Faults
+pub mod Bridge

@@ -1,13 +1,11 @@
 -- The rules of merging and settling, by the tests of the code.
 use mathlib.Core.Path.{_≡_, refl, sym, ap, _∙_}
-use mathlib.Core.Bool.{Bool, true, false, cond}
-use mathlib.Core.Logic.{_≢_, _⊎_, inl, inr}
+use mathlib.Core.Bool.{true, false}
 use mathlib.Core.List.{List, [], _∷_}
-use Prim.Native.Nat.{ℕ, zero, suc, _+_, _-_, _≤_, _<_}
+use Prim.Native.Nat.{ℕ, zero, suc, _≤_, _<_}
 use native.Mathlib.Omega.{arith}
-use lib.Dec.{eqb, ltb}
+use lib.Dec.{ltb}
 use lib.ListN.{length, getD, length-append}
-use Rattle.std.specs.declared.option.Option.{Option}
 use Rattle.std.specs.declared.option.Option.the-variants.{Some, None}
 use Rattle.std.proofs.shelf.Ways.{tells}
 use Rattle.machine.specs.Loaded.{Loaded}
@@ -73,14 +71,14 @@ die-on s h l = record { given = refl; waits = omega (arith, length-append (s .wa
 take-on : (s : State) (u l w : ℕ) → On s (take-over u l w s)
 unfolding take-over
 take-on s u l w = on-cases (On s) (s .held (cell u l)) (hold (cell u l) (Some w) s) (λ d. merge d w s)
-  (λ e. record { given = refl; waits = omega arith })
-  (λ d e. meet-cases (On s) (end s d) (end s w) s (λ q. die-on s (end s w) (end s d)) (λ q. die-on s (end s d) (end s w)) (λ q. on-none s))
+    (λ e. record { given = refl; waits = omega arith })
+    (λ d e. meet-cases (On s) (end s d) (end s w) s (λ q. die-on s (end s w) (end s d)) (λ q. die-on s (end s d) (end s w)) (λ q. on-none s))
 
 pull-on : (s : State) (v l : ℕ) → On s (pull v l s)
 unfolding pull
 pull-on s v l = on-cases (On s) (s .held (cell v l)) s (λ c. take-over (end s v) l (end s c) (hold (cell v l) None s))
-  (λ e. on-none s)
-  (λ c e. on-then s (hold (cell v l) None s) _ (record { given = refl; waits = omega arith }) (take-on (hold (cell v l) None s) (end s v) l (end s c)))
+    (λ e. on-none s)
+    (λ c e. on-then s (hold (cell v l) None s) _ (record { given = refl; waits = omega arith }) (take-on (hold (cell v l) None s) (end s v) l (end s c)))
 
 pub drain-on : (s : State) (v n : ℕ) → On s (drain v n s)
 unfolding drain
@@ -110,6 +108,6 @@ module _ (a b c : Raw) (v u : ℕ) (p : Becomes a (rehold v u) b) (q : Becomes b
 
   pub becomes-settled : (d : Raw) → Becomes c pop d → v ≡ getD (shown a .waiting) 0 0 → u ≡ end (shown a) v → (L : Loaded) → L .links ≡ a .shape .links → Becomes a (settled L) d
   becomes-settled d o first ends L e =
-    becomes-as a d (λ s. pop (drain v (b .shape .links) (rehold v u s))) (settled L)
+      becomes-as a d (λ s. pop (drain v (b .shape .links) (rehold v u s))) (settled L)
       (becomes-then a c d (λ s. drain v (b .shape .links) (rehold v u s)) pop (becomes-then a b c (rehold v u) (drain v (b .shape .links)) p q) o)
       (settle-is L (shown a) v u (b .shape .links) (omega (arith, some, waits-are a)) first ends (e ∙ ap (λ (h : Shape). h .links) (sym (p .same .shape))))

@@ -1,7 +1,7 @@
 -- Words after a run of writes, and a state with one entry more.
 use mathlib.Core.Bool.{cond}
 use mathlib.Core.List.{List}
-use Prim.Native.Nat.{ℕ, zero, suc, _+_, _*_}
+use Prim.Native.Nat.{ℕ, zero, suc, _+_}
 use lib.Dec.{eqb}
 use lib.ListN.{getD, set}
 use Rattle.machine.specs.State.{State}

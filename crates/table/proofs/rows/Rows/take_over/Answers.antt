@@ -13,8 +13,8 @@ merge-requires c κs = (c .pre .0, c .pre .0 .given (cell (c .args .u) (c .args 
 
 pub returns-in-None : need.returns-in-None
 returns-in-None c = becomes-as _ _ (hold (cell (c .args .u) (c .args .l)) (Some (c .args .w))) (take-over (c .args .u) (c .args .l) (c .args .w)) (c .fill .ensures)
-  (take-empty (view (c .args .self .now)) _ _ _ (sym (c .cell .ensures) ∙ c .in-None .is))
+    (take-empty (view (c .args .self .now)) _ _ _ (sym (c .cell .ensures) ∙ c .in-None .is))
 
 pub returns-in-Some : need.returns-in-Some
 returns-in-Some c = becomes-as _ _ (merge (c .in-Some .d) (c .args .w)) (take-over (c .args .u) (c .args .l) (c .args .w)) (c .merge .ensures)
-  (take-filled (view (c .args .self .now)) _ _ _ _ (sym (c .cell .ensures) ∙ c .in-Some .is))
+    (take-filled (view (c .args .self .now)) _ _ _ _ (sym (c .cell .ensures) ∙ c .in-Some .is))
