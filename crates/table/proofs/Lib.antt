@@ -1,3 +1,6 @@
+pub mod Standing
+pub mod Walks
+pub mod Named
 pub mod Places
 pub mod Writes
 pub mod Shown

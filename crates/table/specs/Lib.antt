@@ -1,3 +1,5 @@
+pub mod Standing
+pub mod Walks
 pub mod Layout
 pub mod Writes
 pub mod Calls

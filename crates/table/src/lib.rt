@@ -1,3 +1,6 @@
 // A coset table over lent work words.
 mod loading;
+mod checking;
+mod paths;
 mod rows;
+mod walking;

@@ -1,0 +1,122 @@
+-- The paths of the problem in a table's own words are those that the machine walks, and their links are known.
+use mathlib.Core.Path.{_≡_, refl, sym, ap, subst, _∙_}
+use mathlib.Core.Logic.{_⊎_, inl, inr}
+use mathlib.Core.List.{List, [], _∷_, map}
+use Prim.Native.Nat.{ℕ, zero, suc, _+_, _<_, _≤_}
+use native.Mathlib.Omega.{arith}
+use lib.ListN.{length, getD, take}
+use Rattle.std.specs.declared.option.Option.{Option}
+use Rattle.std.specs.declared.result.Result.{Result}
+use Rattle.std.specs.declared.result.Result.the-variants.{Ok}
+use Rattle.std.specs.shelf.Lists.{All}
+use Rattle.std.proofs.shelf.Bits.{mod-mul-add}
+use Rattle.std.proofs.shelf.Elements.{all-weaker}
+use Rattle.std.proofs.shelf.Lists.{getD-past}
+use Rattle.std.proofs.shelf.Ways.{leb-tells}
+use Rattle.words.specs.declared.faults.SchemaFault.{SchemaFault}
+use Rattle.words.specs.declared.tags.Tag.the-variants as tag
+use Rattle.words.specs.Numbered.{Each}
+use Rattle.words.specs.Tags.{tagged}
+use Rattle.words.specs.Tokens.{Shown}
+use Rattle.problems.specs.declared.Found.{Found}
+use Rattle.problems.specs.Layout.{Walks, Good-rule, Good-map, Well-formed}
+use Rattle.problems.specs.Problem.{Link, Problem, no-link, read}
+use Rattle.problems.specs.Shown as outline
+use Rattle.problems.specs.Tokens.{no-rule, rule-token, map-token}
+use Rattle.problems.proofs.Layouts.{read-layout}
+use Rattle.machine.specs.Loaded.{Loaded}
+use Rattle.machine.specs.Loading.{taken}
+use Rattle.machine.specs.Walking.{walk, walk-in}
+use Rattle.machine.specs.Checking.{Effect, sides}
+use Rattle.table.specs.Layout.{Raw, Tidy, shown}
+use Rattle.table.specs.Walks.{links, Named}
+use Rattle.table.proofs.Named.{Below, walk-comes, sides-named}
+use Rattle.table.specs.Standing.{Stands, paths-in}
+
+-- the words of steps, and their links again
+abbrev pub step-words : List ℕ → List ℕ
+step-words = map (tagged tag.Step)
+
+pub untagged : (ls : List ℕ) → Below 268435456 ls → links (step-words ls) ≡ ls
+untagged [] b = refl
+untagged (l ∷ ls) b = rw (mod-mul-add 4 268435456 l (b .0), untagged ls (b .1))
+
+-- the links of a path that walks are links of the schema
+walks-below : (ts : List Link) (kind : ℕ) (gs : List ℕ) (end : ℕ) → Walks ts kind gs end → Below (length ts) gs
+walks-below ts kind [] end w = tt
+walks-below ts kind (g ∷ gs) end w = (w .0, walks-below ts (getD ts g no-link .to) gs end (w .2))
+
+-- what holds of each element and of the default holds of any
+everywhere : {X : Type 0} (P : X → Type 0) (d : X) (xs : List X) → P d → All P xs → (i : ℕ) → P (getD xs i d)
+everywhere P d [] h a i = h
+everywhere P d (x ∷ xs) h a zero = a .0
+everywhere P d (x ∷ xs) h a (suc i) = everywhere P d xs h (a .1) i
+
+maps-below : (ss : List Link) (km : List ℕ) (ts : List Link) (n : ℕ) (qs : List (List ℕ)) → Each (Good-map ss km ts) n qs → All (Below (length ts)) qs
+maps-below ss km ts n [] a = tt
+maps-below ss km ts n (q ∷ qs) a = (walks-below ts _ q _ (a .0 .walks), maps-below ss km ts (n + 1) qs (a .1))
+
+module _ (p : Problem) (w : Well-formed p) (i : ℕ) where
+  rule-below : Below (length (p .target-links)) (getD (p .rules) i no-rule .left) × Below (length (p .target-links)) (getD (p .rules) i no-rule .right)
+  rule-below =
+    everywhere (λ q. Below (length (p .target-links)) (q .left) × Below (length (p .target-links)) (q .right)) no-rule (p .rules) (tt, tt)
+      (all-weaker (Good-rule (p .target-kinds) (p .target-links)) (λ q. Below (length (p .target-links)) (q .left) × Below (length (p .target-links)) (q .right)) (λ q g. (walks-below _ _ _ _ (g .left-walks), walks-below _ _ _ _ (g .right-walks))) (p .rules) (w .rules))
+      i
+
+  map-below : Below (length (p .target-links)) (getD (p .link-map) i [])
+  map-below = everywhere (Below (length (p .target-links))) [] (p .link-map) tt (maps-below _ _ _ 0 (p .link-map) (w .maps)) i
+
+  -- so their words have those links
+  short : (ls : List ℕ) → Below (length (p .target-links)) ls → links (step-words ls) ≡ ls
+  short ls b = untagged ls (all-weaker (λ l. l < length (p .target-links)) (λ l. l < 268435456) (λ l h. omega (arith, w .target .few-links)) ls b)
+
+rule-tokened : (p : Problem) (i : ℕ) → paths-in (rule-token (Ok p) i) ≡ (step-words (getD (p .rules) i no-rule .left), step-words (getD (p .rules) i no-rule .right))
+rule-tokened p i = elim (leb-tells (suc i) (length (p .rules))) [
+    inl t ↦ rw (t .0)
+  | inr t ↦ rw (t .0, getD-past (p .rules) i no-rule (omega (arith, t .1))) ]
+
+map-tokened : (p : Problem) (i : ℕ) → paths-in (map-token (Ok p) i) .0 ≡ step-words (getD (p .link-map) i [])
+map-tokened p i = elim (leb-tells (suc i) (length (p .link-map))) [
+    inl t ↦ rw (t .0)
+  | inr t ↦ rw (t .0, getD-past (p .link-map) i [] (omega (arith, t .1))) ]
+
+module _ (L : Loaded) (r : Raw) (f : Found) (st : Stands L r f) (i : ℕ) where
+  well : Well-formed (st .problem)
+  well = read-layout (take (r .shape .lands) (r .ws)) (st .problem) (st .reads) .1
+
+  -- the links of a path of the problem
+  known : (g : Loaded → List ℕ) → Below (length (st .problem .target-links)) (g (taken (st .problem) (st .source) (r .shape .capacity))) → Below (r .shape .links) (g L)
+  known g b =
+    let e : length (st .problem .target-links) ≡ r .shape .links = sym (ap (λ (M : Loaded). M .links) (st .takes)) ∙ st .links in
+    subst (λ (M : Loaded). Below (r .shape .links) (g M)) (sym (st .takes)) (subst (λ n. Below n (g (taken (st .problem) (st .source) (r .shape .capacity)))) e b)
+
+  pub rule-links : Below (r .shape .links) (L .left i) × Below (r .shape .links) (L .right i)
+  rule-links = let b = rule-below (st .problem) well i in (known (λ M. M .left i) (b .0), known (λ M. M .right i) (b .1))
+
+  pub map-links : Below (r .shape .links) (L .link-map i)
+  map-links = known (λ M. M .link-map i) (map-below (st .problem) well i)
+
+  -- what is told of the problem that was read
+  told : (token : Result Problem SchemaFault → ℕ → Option Shown) (o : Option Shown) →
+    (outline.told (Ok f) ≡ outline.outline-of (read (take (r .shape .lands) (r .ws))) → o ≡ token (read (take (r .shape .lands) (r .ws))) i) → o ≡ token (Ok (st .problem)) i
+  told token o tells = tells (st .told ∙ ap outline.outline-of (sym (st .reads))) ∙ ap (λ x. token x i) (st .reads)
+
+  pub rule-stands : (o : Option Shown) → (outline.told (Ok f) ≡ outline.outline-of (read (take (r .shape .lands) (r .ws))) → o ≡ rule-token (read (take (r .shape .lands) (r .ws))) i) →
+    (links (paths-in o .0) ≡ L .left i) × (links (paths-in o .1) ≡ L .right i)
+  rule-stands o tells =
+    let t = ap paths-in (told rule-token o tells) ∙ rule-tokened (st .problem) i in
+    let b = rule-below (st .problem) well i in
+    (ap (λ (x : List ℕ × List ℕ). links (x .0)) t ∙ short (st .problem) well i _ (b .0) ∙ sym (ap (λ (M : Loaded). M .left i) (st .takes)),
+     ap (λ (x : List ℕ × List ℕ). links (x .1)) t ∙ short (st .problem) well i _ (b .1) ∙ sym (ap (λ (M : Loaded). M .right i) (st .takes)))
+
+  pub map-stands : (o : Option Shown) → (outline.told (Ok f) ≡ outline.outline-of (read (take (r .shape .lands) (r .ws))) → o ≡ map-token (read (take (r .shape .lands) (r .ws))) i) →
+    links (paths-in o .0) ≡ L .link-map i
+  map-stands o tells =
+    ap links (ap (λ (x : Option Shown). paths-in x .0) (told map-token o tells) ∙ map-tokened (st .problem) i)
+      ∙ short (st .problem) well i _ (map-below (st .problem) well i) ∙ sym (ap (λ (M : Loaded). M .link-map i) (st .takes))
+
+  -- what a check of the rule finds names what is there
+  pub rule-named : Tidy r → (e : ℕ) → e < r .given → (x : Effect) (a b : List ℕ) → (a ≡ L .left i) × (b ≡ L .right i) → x ≡ sides (walk (shown r .held) e a) (walk (shown r .held) e b) → Named r x
+  rule-named tidy e h x a b q same =
+    let k = rule-links in
+    subst (Named r) (sym same) (rw (q .0, q .1) (sides-named r tidy (walk (shown r .held) e (L .left i)) (walk (shown r .held) e (L .right i)) (walk-comes r tidy (L .left i) e h (k .0)) (walk-comes r tidy (L .right i) e h (k .1))))
