@@ -108,6 +108,22 @@ twice-and-thrice = with-rules (0x3000_0200 ∷ (steps 2 ++ 0x3000_0300 ∷ steps
 abbrev pub two-to-one : File
 two-to-one = record { counts = 2 ∷ 1 ∷ []; links = record { from = 0; to = 1; leads = 0 ∷ 0 ∷ [] } ∷ []; landings = [] }
 
+-- records with no links
+abbrev pub apart : List ℕ → File
+apart counts = record { counts = counts; links = []; landings = [] }
+
+-- n records, and a link that leads none of them anywhere
+abbrev pub led-nowhere : ℕ → File
+led-nowhere n = record { counts = n ∷ []; links = record { from = 0; to = 0; leads = [] } ∷ []; landings = [] }
+
+-- a record, then two that a link leads to the first of the two, then a record
+abbrev pub led-to-first : File
+led-to-first = record { counts = 1 ∷ 2 ∷ 1 ∷ []; links = record { from = 1; to = 1; leads = 0 ∷ 0 ∷ [] } ∷ []; landings = [] }
+
+-- g g = nothing, the source's link becomes g g, and the first record lands where no link leaves
+abbrev pub led-twice : List ℕ
+led-twice = 0x1000_0003 ∷ 0x2000_0101 ∷ 0x1000_0102 ∷ 0x2000_0000 ∷ 0x3000_0200 ∷ 0x4000_0000 ∷ 0x4000_0000 ∷ 0x5000_0001 ∷ 0x5000_0100 ∷ 0x5000_0200 ∷ 0x6000_0002 ∷ 0x4000_0000 ∷ 0x4000_0000 ∷ 0x7000_000D ∷ []
+
 unfoldable pub cases : List Case
 cases =
     record {
@@ -312,6 +328,187 @@ cases =
       work = 4137;
       asked = loads;
       expected = refused (fault-of refusal.Large 0);
+    }
+    ∷ record {
+      name = "three steps are one step, with a budget for exactly its steps";
+      words = thrice-once;
+      source = wheel 1 [];
+      work = 47;
+      asked = works 4;
+      expected = ran (record {
+        capacity = 9;
+        ended = Some complete;
+        steps = 4;
+        given = 3;
+        living = 3;
+        waiting = 0;
+        landings = Some 0 ∷ [];
+        cells = Some 1 ∷ Some 2 ∷ Some 1 ∷ [];
+        define = Some refusal.Filled;
+        finish = Ok (0x8000_0001 ∷ 0x9000_0003 ∷ 0xA000_0000 ∷ 0xB000_0001 ∷ 0xB000_0002 ∷ 0xB000_0001 ∷ 0xC001_0000 ∷ 0xB000_0000 ∷ 0x7000_0008 ∷ []);
+      });
+    }
+    ∷ record {
+      name = "two kinds onto one: numbered by kind, then by record";
+      words = 0x1000_0002 ∷ 0x1000_0101 ∷ 0x5000_0000 ∷ 0x5000_0100 ∷ 0x7000_0004 ∷ [];
+      source = answers (apart (2 ∷ 1 ∷ []));
+      work = 35;
+      asked = works 20;
+      expected = ran (record {
+        capacity = 9;
+        ended = Some complete;
+        steps = 3;
+        given = 3;
+        living = 3;
+        waiting = 0;
+        landings = Some 0 ∷ Some 1 ∷ Some 2 ∷ [];
+        cells = [];
+        define = Some refusal.NotLiving;
+        finish = Ok (0x8000_0001 ∷ 0x9000_0003 ∷ 0xC002_0000 ∷ 0xB000_0000 ∷ 0xB000_0001 ∷ 0xC001_0100 ∷ 0xB000_0002 ∷ 0x7000_0007 ∷ []);
+      });
+    }
+    ∷ record {
+      name = "two links from one record, and h h = h behind them: numbered by entry, then by link";
+      words = 0x1000_0001 ∷ 0x1000_0102 ∷ 0x2000_0001 ∷ 0x2000_0001 ∷ 0x2000_0101 ∷ 0x3001_0201 ∷ 0x4000_0002 ∷ 0x4000_0002 ∷ 0x4000_0002 ∷ 0x5000_0000 ∷ 0x7000_000A ∷ [];
+      source = answers (apart (1 ∷ []));
+      work = 66;
+      asked = works 20;
+      expected = ran (record {
+        capacity = 9;
+        ended = Some complete;
+        steps = 7;
+        given = 5;
+        living = 5;
+        waiting = 0;
+        landings = Some 0 ∷ [];
+        cells = Some 1 ∷ Some 2 ∷ None ∷ None ∷ None ∷ Some 3 ∷ None ∷ None ∷ Some 4 ∷ None ∷ None ∷ Some 3 ∷ None ∷ None ∷ Some 4 ∷ [];
+        define = Some refusal.Filled;
+        finish = Ok (0x8000_0002 ∷ 0x9000_0001 ∷ 0x9000_0004 ∷ 0xA000_0001 ∷ 0xB000_0000 ∷ 0xA000_0001 ∷ 0xB000_0001 ∷ 0xA000_0101 ∷ 0xB000_0002 ∷ 0xB000_0003 ∷ 0xB000_0002 ∷ 0xB000_0003 ∷ 0xC001_0000 ∷ 0xB000_0000 ∷ 0x7000_000E ∷ []);
+      });
+    }
+    ∷ record {
+      name = "two are led to the first: a source link is checked before a rule";
+      words = led-twice;
+      source = answers led-to-first;
+      work = 44;
+      asked = works 8;
+      expected = ran (record {
+        capacity = 6;
+        ended = Some spent;
+        steps = 8;
+        given = 6;
+        living = 6;
+        waiting = 0;
+        landings = Some 0 ∷ Some 1 ∷ Some 2 ∷ Some 3 ∷ [];
+        cells = None ∷ Some 4 ∷ Some 5 ∷ None ∷ Some 1 ∷ Some 1 ∷ [];
+        define = Some refusal.NotLiving;
+        finish = Err refusal.Incomplete;
+      });
+    }
+    ∷ record {
+      name = "two are led to the first: while one waits, what does not live is refused as waiting";
+      words = led-twice;
+      source = answers led-to-first;
+      work = 44;
+      asked = works 9;
+      expected = ran (record {
+        capacity = 6;
+        ended = Some spent;
+        steps = 9;
+        given = 6;
+        living = 5;
+        waiting = 1;
+        landings = Some 0 ∷ Some 1 ∷ Some 2 ∷ Some 3 ∷ [];
+        cells = None ∷ Some 4 ∷ Some 5 ∷ None ∷ Some 1 ∷ Some 1 ∷ [];
+        define = Some refusal.Waiting;
+        finish = Err refusal.Waiting;
+      });
+    }
+    ∷ record {
+      name = "two are led to the first: settling one merges what its cell and the survivor's hold";
+      words = led-twice;
+      source = answers led-to-first;
+      work = 44;
+      asked = works 10;
+      expected = ran (record {
+        capacity = 6;
+        ended = Some spent;
+        steps = 10;
+        given = 6;
+        living = 4;
+        waiting = 1;
+        landings = Some 0 ∷ Some 1 ∷ Some 1 ∷ Some 3 ∷ [];
+        cells = None ∷ Some 4 ∷ None ∷ None ∷ Some 1 ∷ Some 1 ∷ [];
+        define = Some refusal.Waiting;
+        finish = Err refusal.Waiting;
+      });
+    }
+    ∷ record {
+      name = "g f = nothing and g = g f: settling one merges another, which then waits behind it";
+      words = 0x1000_0001 ∷ 0x1000_0101 ∷ 0x2000_0000 ∷ 0x2000_0000 ∷ 0x3000_0200 ∷ 0x4000_0001 ∷ 0x4000_0000 ∷ 0x3000_0102 ∷ 0x4000_0001 ∷ 0x4000_0001 ∷ 0x4000_0000 ∷ 0x5000_0000 ∷ 0x7000_000C ∷ [];
+      source = wheel 1 [];
+      work = 59;
+      asked = works 20;
+      expected = ran (record {
+        capacity = 9;
+        ended = Some complete;
+        steps = 7;
+        given = 3;
+        living = 1;
+        waiting = 0;
+        landings = Some 0 ∷ [];
+        cells = Some 0 ∷ Some 0 ∷ None ∷ None ∷ None ∷ None ∷ [];
+        define = Some refusal.Filled;
+        finish = Ok (0x8000_0001 ∷ 0x9000_0001 ∷ 0xA000_0000 ∷ 0xB000_0000 ∷ 0xA000_0000 ∷ 0xB000_0000 ∷ 0xC001_0000 ∷ 0xB000_0000 ∷ 0x7000_0008 ∷ []);
+      });
+    }
+    ∷ record {
+      name = "4,096 records with a link that the schema lacks, in no words: the shape is told first";
+      words = with-rules [] 0x7000_0004;
+      source = wheel 4096 (0 ∷ []);
+      work = 0;
+      asked = loads;
+      expected = refused (fault-of refusal.Shape 0);
+    }
+    ∷ record {
+      name = "4,096 records that lead to nothing, in no words: their number is told first";
+      words = 0x1000_0001 ∷ 0x2000_0000 ∷ 0x1000_0101 ∷ 0x5000_0000 ∷ 0x6000_0000 ∷ 0x7000_0005 ∷ [];
+      source = answers (led-nowhere 4096);
+      work = 0;
+      asked = loads;
+      expected = refused (fault-of refusal.Large 0);
+    }
+    ∷ record {
+      name = "a record that leads to nothing, in no words: the lead is told first";
+      words = 0x1000_0001 ∷ 0x2000_0000 ∷ 0x1000_0101 ∷ 0x5000_0000 ∷ 0x6000_0000 ∷ 0x7000_0005 ∷ [];
+      source = answers (led-nowhere 1);
+      work = 0;
+      asked = loads;
+      expected = refused (fault-of refusal.Leads 0);
+    }
+    ∷ record {
+      name = "as many words as a load needs";
+      words = with-rules [] 0x7000_0004;
+      source = wheel 1 [];
+      work = 6;
+      asked = loads;
+      expected = accepted 0;
+    }
+    ∷ record {
+      name = "one word less than a load needs";
+      words = with-rules [] 0x7000_0004;
+      source = wheel 1 [];
+      work = 5;
+      asked = loads;
+      expected = refused (fault-of refusal.Memory 0);
+    }
+    ∷ record {
+      name = "more words than 65,535 entries need";
+      words = with-rules [] 0x7000_0004;
+      source = wheel 1 [];
+      work = 1000000;
+      asked = loads;
+      expected = accepted 65535;
     }
     ∷ []
 
