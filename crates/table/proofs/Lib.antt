@@ -6,3 +6,4 @@ pub mod Reheld
 pub mod Settled
 pub mod Faults
 pub mod Bridge
+pub mod Ghosts

@@ -2,3 +2,6 @@ pub mod Layout
 pub mod Writes
 pub mod Calls
 pub mod View
+pub mod LoadedWords
+pub mod Reached
+pub mod Tabled
