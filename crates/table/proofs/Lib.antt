@@ -7,3 +7,7 @@ pub mod LoadCopies
 pub mod LoadSource
 pub mod LoadWords
 pub mod LoadKept
+pub mod Reheld
+pub mod Settled
+pub mod Faults
+pub mod Bridge

@@ -1,5 +1,6 @@
 pub mod Layout
 pub mod Writes
+pub mod Calls
 pub mod View
 pub mod LoadedWords
 pub mod Taking

@@ -12,9 +12,19 @@ abbrev pub raw : Rows → Raw
 raw t = record {
   ws = now (t .words);
   shape = record {
-    kinds = t .source .kinds; counts = t .source .counts; starts = t .source .starts; lands = t .lands; records = t .records;
-    base = t .base; links = t .links; capacity = t .capacity };
-  given = t .given; front = t .front; waits = t .waits }
+    kinds = t .source .kinds;
+    counts = t .source .counts;
+    starts = t .source .starts;
+    lands = t .lands;
+    records = t .records;
+    base = t .base;
+    links = t .links;
+    capacity = t .capacity;
+  };
+  given = t .given;
+  front = t .front;
+  waits = t .waits;
+}
 
 abbrev pub view : Rows → machine.State
 view t = shown (raw t)

@@ -1,13 +1,18 @@
 // A table in lent work words, as rows of words. Nothing here is an invariant: each function says what it needs.
 ghost use mathlib.Core.Path.{_≡_};
-ghost use Prim.Native.Nat.{ℕ, _+_, _-_, _*_, _<_, _≤_};
+ghost use Prim.Native.Nat.{_+_, _-_, _*_, _<_, _≤_};
 ghost use lib.ListN.{length, getD};
-ghost use Rattle.machine.specs.State.{cell, landing, lives};
-ghost use Rattle.machine.specs.Merging.{end};
+ghost use Rattle.machine.specs.State.{cell, landing, lives, hold, born};
+ghost use Rattle.machine.specs.Merging.{end, die};
+ghost use Rattle.machine.specs.Settling.{pop};
+ghost use Rattle.std.specs.declared.option.Option.the-variants.{Some, None};
 ghost use Rattle.table.specs.Layout.{Fits, Tidy, Becomes, spot};
 ghost use Rattle.table.specs.View.{raw, view, slot, has, Has, row};
-ghost use Rattle.table.specs.Writes.{cleared, added};
 ghost use Rattle.table.specs.View as place;
+ghost use Rattle.table.specs.Writes.{changed, emptied, added};
+
+pub mod calls;
+pub mod settle;
 
 // The source's kinds: of each the number of its records and the place of its first landing.
 #[derive(Clone, Copy)]
@@ -39,6 +44,16 @@ pub struct Rows<'a> {
     pub waits: usize,
 }
 
+// Writes 0 into the `n` words from `at` on.
+fn clear(words: &mut [u32], at: usize, n: usize)
+    requires { ⌜ at + n ≤ length (now words) ⌝ }
+    ensures { λ _. ⌜ now (words .exit) ≡ changed emptied (now (words .entry)) at n ⌝ }
+{
+    for i in 0..n {
+        words[at + i] = 0;
+    }
+}
+
 impl Rows<'_> {
     // The place of word `j` of entry `e`.
     fn at(&self, e: usize, j: usize) -> usize
@@ -68,7 +83,8 @@ impl Rows<'_> {
     {
         match t {
             Slot::Cell(e, l) => (e as usize) < self.given && (l as usize) < self.links,
-            Slot::Landing(k, q) => (k as usize) < self.source.kinds && q < self.source.counts[k as usize],
+            Slot::Landing(k, q) => (k as usize) < self.source.kinds
+                && q < self.source.counts[k as usize],
         }
     }
 
@@ -152,5 +168,91 @@ impl Rows<'_> {
             f = self.forward(x);
         }
         x
+    }
+
+    // Writes the entry `v` into the slot `t`.
+    pub fn fill(&mut self, t: Slot, v: u32)
+        requires { ⌜ Tidy (raw (now self)) ⌝ }
+        requires { ⌜ Has (now self) t ⌝ }
+        requires { ⌜ v < now self .given ⌝ }
+        ensures { λ _. ⌜ Becomes (raw (now (self .entry))) (hold (slot t) (Some v)) (raw (now (self .exit))) ⌝ }
+    {
+        let at = self.place(t);
+        self.words[at] = v + 1;
+    }
+
+    // Empties the slot `t`.
+    fn empty(&mut self, t: Slot)
+        requires { ⌜ Tidy (raw (now self)) ⌝ }
+        requires { ⌜ Has (now self) t ⌝ }
+        ensures { λ _. ⌜ Becomes (raw (now (self .entry))) (hold (slot t) None) (raw (now (self .exit))) ⌝ }
+    {
+        let at = self.place(t);
+        self.words[at] = 0;
+    }
+
+    // Gives the next number to an entry of the kind `k`, which no slot holds yet.
+    fn add(&mut self, k: u32) -> u32
+        requires { ⌜ Tidy (raw (now self)) ⌝ }
+        requires { ⌜ now self .given < now self .capacity ⌝ }
+        ensures is { λ r. ⌜ r ≡ now (self .entry) .given ⌝ }
+        ensures after { λ _. ⌜ Becomes (raw (now (self .entry))) (added k) (raw (now (self .exit))) ⌝ }
+    {
+        let n = self.given;
+        let at = self.at(n, 0);
+        self.words[at] = k;
+        self.words[at + 1] = n as u32;
+        let links = self.links;
+        clear(self.words, at + 3, links);
+        self.given = n + 1;
+        n as u32
+    }
+
+    // A new entry of the kind `k` fills the slot `t`.
+    pub fn born(&mut self, k: u32, t: Slot) -> u32
+        requires { ⌜ Tidy (raw (now self)) ⌝ }
+        requires { ⌜ Has (now self) t ⌝ }
+        requires { ⌜ now self .given < now self .capacity ⌝ }
+        ensures is { λ r. ⌜ r ≡ now (self .entry) .given ⌝ }
+        ensures after { λ _. ⌜ Becomes (raw (now (self .entry))) (born k (slot t)) (raw (now (self .exit))) ⌝ }
+    {
+        let n = self.add(k);
+        self.fill(t, n);
+        n
+    }
+
+    // The living entry `v` dies: its forward is `u`, and it waits.
+    fn die(&mut self, v: u32, u: u32)
+        requires { ⌜ Tidy (raw (now self)) ⌝ }
+        requires { ⌜ v < now self .given ⌝ }
+        requires { ⌜ u < v ⌝ }
+        requires { ⌜ view (now self) .forward v ≡ v ⌝ }
+        ensures { λ _. ⌜ Becomes (raw (now (self .entry))) (die v u) (raw (now (self .exit))) ⌝ }
+    {
+        let at = self.at(v as usize, 1);
+        let last = self.front + self.waits;
+        let slot = self.at(last, 2);
+        self.words[at] = u;
+        self.words[slot] = v;
+        self.waits += 1;
+    }
+
+    // The first that waits.
+    fn first(&self) -> u32
+        requires { ⌜ Tidy (raw (now self)) ⌝ }
+        requires { ⌜ 0 < now self .waits ⌝ }
+        ensures { λ r. ⌜ r ≡ getD (view (now (self .entry)) .waiting) 0 0 ⌝ }
+    {
+        self.read(self.front, 2)
+    }
+
+    // The first that waits is taken from the list.
+    fn pop(&mut self)
+        requires { ⌜ Tidy (raw (now self)) ⌝ }
+        requires { ⌜ 0 < now self .waits ⌝ }
+        ensures { λ _. ⌜ Becomes (raw (now (self .entry))) pop (raw (now (self .exit))) ⌝ }
+    {
+        self.front += 1;
+        self.waits -= 1;
     }
 }

@@ -5,4 +5,5 @@ use Rattle.table.proofs.rows.Rows.at.Needs as need
 pub returns : need.returns
 returns c = let t = c .args .self .now in record {
   is = refl;
-  fits = place-fits (t .base) (t .links) (t .capacity) _ (c .args .e) (c .args .j) (c .pre .0 .room) (c .pre .1) (c .pre .2) }
+  fits = place-fits (t .base) (t .links) (t .capacity) _ (c .args .e) (c .args .j) (c .pre .0 .room) (c .pre .1) (c .pre .2);
+}

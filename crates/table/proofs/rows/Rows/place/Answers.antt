@@ -1,5 +1,4 @@
 use mathlib.Core.Path.{ap}
-use native.Mathlib.Omega.{arith}
 use borrow.Author.Needs.{needs}
 use Rattle.table.specs.View.{raw, slot}
 use Rattle.table.proofs.Places.{landing-placed}
@@ -10,5 +9,5 @@ add-result c = let h = landing-placed (raw (c .args .self .now)) (c .pre .0) (sl
 
 pub returns-in-Landing : need.returns-in-Landing
 returns-in-Landing c =
-  let h = landing-placed (raw (c .args .self .now)) (c .pre .0) (slot (c .args .t)) _ _ (ap slot (c .in-Landing .is)) (c .pre .1) in
-  record { is = h .0; fits = h .1 }
+    let h = landing-placed (raw (c .args .self .now)) (c .pre .0) (slot (c .args .t)) _ _ (ap slot (c .in-Landing .is)) (c .pre .1) in
+    record { is = h .0; fits = h .1 }
