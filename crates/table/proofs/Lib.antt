@@ -2,8 +2,16 @@ pub mod Places
 pub mod Writes
 pub mod Shown
 pub mod Keeps
+pub mod LoadLists
+pub mod LoadCopies
+pub mod LoadSource
+pub mod LoadWords
+pub mod LoadKept
 pub mod Reheld
 pub mod Settled
 pub mod Faults
 pub mod Bridge
 pub mod Ghosts
+pub mod After
+pub mod Outline
+pub mod Asked

@@ -3,5 +3,6 @@ pub mod Writes
 pub mod Calls
 pub mod View
 pub mod LoadedWords
+pub mod Taking
 pub mod Reached
 pub mod Tabled

@@ -3,6 +3,7 @@ use mathlib.Core.Bool.{Bool, true, false}
 use mathlib.Core.List.{List}
 use Prim.Native.Nat.{ℕ}
 use lib.ListN.{length}
+use Rattle.machine.specs.Loaded.{Loaded}
 use Rattle.machine.specs.Tables as machine
 use Rattle.table.specs.Layout.{Raw, shown}
 use Rattle.table.specs.LoadedWords.{taken-shown}
@@ -15,3 +16,7 @@ seen true leads r = machine.holding (length (r .ws)) (taken-shown leads r) (show
 
 abbrev pub view-of : Table → machine.Table
 view-of t = seen (t .loaded) (t .leads) (raw (t .rows))
+
+-- what load took
+abbrev pub took : Table → Loaded
+took t = taken-shown (t .leads) (raw (t .rows))
