@@ -1,24 +1,20 @@
 -- What calls keep of a loaded table.
 use mathlib.Core.Path.{_≡_, refl, sym, ap, subst, _∙_}
-use mathlib.Core.Bool.{Bool, true, false, cond, _&&_}
+use mathlib.Core.Bool.{Bool, true, false}
 use mathlib.Core.List.{List, [], _∷_, _++_}
-use mathlib.Core.Logic.{inl, inr, ∥∥₁-elim, ∥∥₁-map}
+use mathlib.Core.Logic.{∥∥₁-elim, ∥∥₁-map}
 use Prim.Native.Nat.{ℕ, _+_, _<_}
 use native.Mathlib.Nat.{ℕ-set}
 use native.Mathlib.Bridge.{le-prop}
 use native.Mathlib.Omega.{arith}
-use lib.Dec.{ltb}
 use lib.ListN.{length, getD, take}
-use Rattle.std.proofs.shelf.Tests.{cases-bool, and-parts, ltb-true}
-use Rattle.std.specs.declared.option.Option.{Option}
 use Rattle.std.specs.declared.option.Option.the-variants.{Some, None}
 use Rattle.std.specs.declared.result.Result.{Result}
 use Rattle.std.specs.declared.result.Result.the-variants.{Ok}
 use Rattle.words.specs.declared.faults.Refusal.{Refusal}
 use Rattle.problems.specs.declared.Found.{Found}
-use Rattle.problems.specs.Problem.{Problem, read}
+use Rattle.problems.specs.Problem.{read}
 use Rattle.problems.specs.Shown.{outline-of}
-use Rattle.registers.specs.Meaning.{Meaning}
 use Rattle.machine.specs.Loaded.{Loaded}
 use Rattle.machine.specs.Loading.{taken, load}
 use Rattle.machine.specs.State.{State, start}
@@ -29,7 +25,7 @@ use Rattle.machine.specs.Tables.{Table, calling, holding}
 use Rattle.machine.proofs.Loads.{accepted}
 use Rattle.machine.proofs.Runs.{calls-good, start-good}
 use Rattle.table.specs.Layout.{Shape, Raw, Same, Becomes, Carries, count, shown}
-use Rattle.table.specs.LoadedWords.{problem-in, problem-of, leaving, ends-copied, count-copied, lead-copied, copy, Placed, taken-shown}
+use Rattle.table.specs.LoadedWords.{copy, Placed, taken-shown}
 use Rattle.table.specs.Reached.{Reached, problem-words}
 use Rattle.table.specs.Tabled.{seen}
 use Rattle.registers.specs.Writing.{lead}

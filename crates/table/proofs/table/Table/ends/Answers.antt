@@ -1,8 +1,5 @@
-use Prim.Native.Nat.{_+_, _<_}
-use lib.ListN.{length}
 use borrow.Author.Needs.{needs}
 use Rattle.table.specs.View.{raw}
-use Rattle.table.specs.declared.table.Table.{Table}
 use Rattle.table.proofs.Outline.{link-in, link-leaves, link-leads}
 use Rattle.table.proofs.table.Table.ends.Needs as need
 
