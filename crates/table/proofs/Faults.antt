@@ -67,7 +67,7 @@ give-room s t capacity there e =
 
 -- what load took has the tests of the code
 module _ (L : Loaded) (r : Raw) (c : Carries L (r .shape)) where
-  counted : (k q : ℕ) → inside (r .shape) (r .given) (landing k q) ≡ (ltb k (L .source-kinds) && ltb q (L .count k))
+  pub counted : (k q : ℕ) → inside (r .shape) (r .given) (landing k q) ≡ (ltb k (L .source-kinds) && ltb q (L .count k))
   counted k q = elim (leb-tells (suc k) (r .shape .kinds)) [
     | inl a ↦ rw (c .kinds, c .counts k (a .1)) refl
     | inr a ↦ rw (c .kinds, a .0) refl
@@ -76,7 +76,7 @@ module _ (L : Loaded) (r : Raw) (c : Carries L (r .shape)) where
   pub land-given : (k q : ℕ) (there : Bool) → there ≡ inside (r .shape) (r .given) (landing k q) → give-fault (shown r) there (landing k q) (r .shape .capacity) ≡ land-fault L (shown r) k q
   land-given k q there e = rw (e, counted k q, ← c .capacity) refl
 
-  leaving : (e l from : ℕ) → (l < r .shape .links → L .from l ≡ from) →
+  pub leaving : (e l from : ℕ) → (l < r .shape .links → L .from l ≡ from) →
       (lives (shown r) e && (ltb l (r .shape .links) && eqb (shown r .kind e) from)) ≡ (lives (shown r) e && (ltb l (L .links) && eqb (shown r .kind e) (L .from l)))
   leaving e l from h = elim (leb-tells (suc l) (r .shape .links)) [
     | inl a ↦ rw (c .links, h (a .1)) refl

@@ -17,3 +17,11 @@ pub mod LoadCopies
 pub mod LoadSource
 pub mod LoadWords
 pub mod LoadKept
+pub mod Reheld
+pub mod Settled
+pub mod Faults
+pub mod Bridge
+pub mod Ghosts
+pub mod After
+pub mod Outline
+pub mod Asked

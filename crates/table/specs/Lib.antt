@@ -7,3 +7,5 @@ pub mod View
 pub mod Sweeps
 pub mod LoadedWords
 pub mod Taking
+pub mod Reached
+pub mod Tabled

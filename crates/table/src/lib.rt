@@ -4,3 +4,4 @@ mod checking;
 mod paths;
 mod rows;
 mod walking;
+pub mod table;

@@ -78,7 +78,7 @@ impl Rows<'_> {
     }
 
     // Whether the slot `t` has a word.
-    fn has(&self, t: Slot) -> bool
+    pub fn has(&self, t: Slot) -> bool
         requires { ⌜ Fits (raw (now self)) ⌝ }
         ensures { λ r. ⌜ r ≡ has (now (self .entry)) t ⌝ }
     {

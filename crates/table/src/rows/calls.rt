@@ -78,7 +78,7 @@ impl Rows<'_> {
     }
 
     // Whether `e` lives and has the kind `from`, which the link `l` leaves.
-    fn leaves(&self, e: u32, l: u32, from: u32) -> bool
+    pub fn leaves(&self, e: u32, l: u32, from: u32) -> bool
         requires { ⌜ Fits (raw (now self)) ⌝ }
         ensures { λ r. ⌜ r ≡ (lives (view (now (self .entry))) e && (ltb l (now (self .entry) .links) && eqb (view (now (self .entry)) .kind e) from)) ⌝ }
     {
