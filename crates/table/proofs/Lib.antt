@@ -6,3 +6,6 @@ pub mod Reheld
 pub mod Settled
 pub mod Faults
 pub mod Bridge
+pub mod SweepStates
+pub mod SweepSteps
+pub mod SweepMoves

@@ -13,6 +13,7 @@ ghost use Rattle.table.specs.Writes.{changed, emptied, added};
 
 pub mod calls;
 pub mod settle;
+pub mod sweep;
 
 // The source's kinds: of each the number of its records and the place of its first landing.
 #[derive(Clone, Copy)]
