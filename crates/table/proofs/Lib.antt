@@ -1,3 +1,4 @@
+pub mod Checks
 pub mod Standing
 pub mod Walks
 pub mod Named

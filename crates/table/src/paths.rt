@@ -1,42 +1,47 @@
 // The paths of the problem that stands in a table's own words, and the checks along them.
 ghost use mathlib.Core.Path.{_≡_};
-ghost use Prim.Native.Nat.{_<_};
+ghost use mathlib.Core.Bool.{_&&_};
+ghost use lib.Dec.{eqb};
 ghost use Rattle.problems.specs.Tokens.{shown-token};
 ghost use Rattle.machine.specs.Loaded.{Loaded};
-ghost use Rattle.machine.specs.Checking.{effect, rule-effect};
-ghost use Rattle.machine.specs.Tables.{outcome};
+ghost use Rattle.machine.specs.State.{lives};
+ghost use Rattle.machine.specs.Checking.{rule-effect};
+ghost use Rattle.machine.specs.Calls.{check-rule, apply, rule-fault};
+ghost use Rattle.machine.specs.Tables.{outcome, answered};
 ghost use Rattle.table.specs.Layout.{Fits, Tidy, Becomes};
 ghost use Rattle.table.specs.View.{raw, view};
 ghost use Rattle.table.specs.Walks.{links};
-ghost use Rattle.table.specs.Standing.{Stands, Standing, paths-in};
+ghost use Rattle.table.specs.Standing.{Stands, Standing, parts-in, shown-parts, linked, rule-of, rule-found, shown-found};
+use crate::checking::Effect;
 use crate::rows::Rows;
 use machine::answers::Outcome;
+use words::faults::Refusal;
 use problems::Found;
 use problems::link_map_at;
 use problems::rule_at;
 use words::tokens::Token;
 
-// The paths of a token: a rule has two, a link map one.
-fn paths_in<'b>(token: Option<Token<'b>>) -> (&'b [u32], &'b [u32])
-    ensures { λ r. ⌜ (now (r .0) ≡ paths-in (shown-token (token .entry)) .0) × (now (r .1) ≡ paths-in (shown-token (token .entry)) .1) ⌝ }
+// The parts of a token: a rule's first kind and two paths, or a link map's link and path.
+fn parts_in<'b>(token: Option<Token<'b>>) -> Option<(u32, &'b [u32], &'b [u32])>
+    ensures { λ r. ⌜ shown-parts r ≡ parts-in (shown-token (token .entry)) ⌝ }
 {
     let Some(token) = token else {
-        return (&[], &[]);
+        return None;
     };
     match token {
-        Token::Rule { left, right, .. } => (left, right),
-        Token::LinkMap { path, .. } => (path, &[]),
-        _ => (&[], &[]),
+        Token::Rule { first, left, right, .. } => Some((first, left, right)),
+        Token::LinkMap { link, path, .. } => Some((link, path, &[])),
+        _ => None,
     }
 }
 
 impl Rows<'_> {
-    // The two paths of the rule `i`; both are empty where there is no such rule.
-    pub fn rule_paths<'b>(&'b self, found: &Found, i: usize) -> (&'b [u32], &'b [u32])
+    // The rule `i`, if there is one: its first kind and its two paths.
+    pub fn rule<'b>(&'b self, found: &Found, i: usize) -> Option<(u32, &'b [u32], &'b [u32])>
         requires { ⌜ Fits (raw (now self)) ⌝ }
-        ensures { λ r. ⌜ ((L : Loaded) → Stands L (raw (now (self .entry))) (now (found .entry)) → (links (now (r .0)) ≡ L .left i) × (links (now (r .1)) ≡ L .right i)) ⌝ }
+        ensures { λ r. ⌜ ((L : Loaded) → Stands L (raw (now (self .entry))) (now (found .entry)) → linked (shown-parts r) ≡ rule-of L i) ⌝ }
     {
-        paths_in(rule_at(&self.words[..self.lands], found, i))
+        parts_in(rule_at(&self.words[..self.lands], found, i))
     }
 
     // The path of the source link `i`, which is empty where there is no such link.
@@ -44,19 +49,51 @@ impl Rows<'_> {
         requires { ⌜ Fits (raw (now self)) ⌝ }
         ensures { λ r. ⌜ ((L : Loaded) → Stands L (raw (now (self .entry))) (now (found .entry)) → links (now r) ≡ L .link-map i) ⌝ }
     {
-        paths_in(link_map_at(&self.words[..self.lands], found, i)).0
+        match parts_in(link_map_at(&self.words[..self.lands], found, i)) {
+            Some((_, path, _)) => path,
+            None => &[],
+        }
+    }
+
+    // Whether `e` lives and has that kind.
+    fn lives_as(&self, e: u32, kind: u32) -> bool
+        requires { ⌜ Fits (raw (now self)) ⌝ }
+        ensures { λ r. ⌜ r ≡ (lives (view (now (self .entry))) e && eqb (view (now (self .entry)) .kind e) kind) ⌝ }
+    {
+        self.lives(e) && self.kind(e) == kind
+    }
+
+    // What the check of a rule finds at `e`, or why it is refused.
+    fn rule_found(&self, rule: Option<(u32, &[u32], &[u32])>, e: u32) -> Result<Effect, Refusal>
+        requires { ⌜ Fits (raw (now self)) ⌝ }
+        ensures { λ r. ⌜ shown-found r ≡ rule-found (view (now (self .entry))) e (linked (shown-parts (rule .entry))) ⌝ }
+    {
+        if self.waits > 0 {
+            return Err(Refusal::Waiting);
+        }
+        match rule {
+            Some((first, left, right)) => {
+                if self.lives_as(e, first) {
+                    Ok(self.rule_effect(left, right, e))
+                } else {
+                    Err(Refusal::NotLiving)
+                }
+            }
+            None => Err(Refusal::NotLiving),
+        }
     }
 
     // Checks the rule `i` at `e`.
-    pub fn check_rule(&mut self, found: &Found, e: u32, i: usize) -> Outcome
+    pub fn check_rule(&mut self, found: &Found, e: u32, i: usize) -> Result<Outcome, Refusal>
         requires { ⌜ Tidy (raw (now self)) ⌝ }
         requires { ⌜ Standing (raw (now self)) (now found) ⌝ }
-        requires { ⌜ e < now self .given ⌝ }
-        ensures told { λ r. ⌜ ((L : Loaded) → Stands L (raw (now (self .entry))) (now (found .entry)) → r ≡ outcome (rule-effect L (view (now (self .entry))) e i)) ⌝ }
-        ensures after { λ _. ⌜ ((L : Loaded) → Stands L (raw (now (self .entry))) (now (found .entry)) → Becomes (raw (now (self .entry))) (effect (rule-effect L (view (now (self .entry))) e i)) (raw (now (self .exit)))) ⌝ }
+        ensures is { λ r. ⌜ ((L : Loaded) → Stands L (raw (now (self .entry))) (now (found .entry)) → r ≡ answered (rule-fault L (view (now (self .entry))) e i) (outcome (rule-effect L (view (now (self .entry))) e i))) ⌝ }
+        ensures after { λ _. ⌜ ((L : Loaded) → Stands L (raw (now (self .entry))) (now (found .entry)) → Becomes (raw (now (self .entry))) (apply L (check-rule e i)) (raw (now (self .exit)))) ⌝ }
     {
-        let (left, right) = self.rule_paths(found, i);
-        let what = self.rule_effect(left, right, e);
-        self.act(what)
+        let rule = self.rule(found, i);
+        match self.rule_found(rule, e) {
+            Err(fault) => Err(fault),
+            Ok(what) => Ok(self.act(what)),
+        }
     }
 }
