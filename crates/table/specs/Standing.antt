@@ -1,8 +1,8 @@
 -- The problem in a table's own words.
 use mathlib.Core.Path.{_≡_}
-use mathlib.Core.Bool.{cond, _&&_}
+use mathlib.Core.Bool.{Bool, cond, _&&_}
 use mathlib.Core.List.{List, []}
-use Prim.Native.Nat.{ℕ}
+use Prim.Native.Nat.{ℕ, _<_}
 use denote.Ref.{RefT}
 use lib.Dec.{eqb, ltb}
 use lib.ListN.{take}
@@ -19,11 +19,13 @@ use Rattle.problems.specs.Shown as outline
 use Rattle.registers.specs.Meaning.{Meaning}
 use Rattle.machine.specs.Loaded.{Loaded}
 use Rattle.machine.specs.Loading.{taken}
-use Rattle.machine.specs.State.{State, waits, lives}
-use Rattle.machine.specs.Walking.{walk}
+use Rattle.machine.specs.Readings.{Accepted}
+use Rattle.machine.specs.State.{State, landing, waits, lives}
+use Rattle.machine.specs.Walking.{walk, walk-in}
 use Rattle.machine.specs.Checking as check
-use Rattle.table.specs.declared.checking.Effect.{Effect}
-use Rattle.table.specs.Layout.{Raw}
+use Rattle.table.specs.declared.rows.paths.Lead.{Lead}
+use Rattle.table.specs.declared.rows.checking.Effect.{Effect}
+use Rattle.table.specs.Layout.{Raw, Carries}
 use Rattle.table.specs.Walks.{links, shown-effect}
 
 -- before the landings stands the problem that L was taken from, and what was found is its outline
@@ -90,3 +92,22 @@ with-rule s e (Some x) =
 
 abbrev pub rule-found : State → ℕ → Option Parts → Result check.Effect Refusal
 rule-found s e o = cond (waits (s .waiting)) (Err refusal.Waiting) (with-rule s e o)
+
+-- the same of a source link that leads as x says
+abbrev pub checked : State → Bool → check.Effect → Result check.Effect Refusal
+checked s there y = cond (waits (s .waiting)) (Err refusal.Waiting) (cond there (Ok y) (Err refusal.NotLiving))
+
+abbrev pub led-effect : State → Lead → List ℕ → check.Effect
+led-effect s x path = check.sides (walk-in (s .held) (landing (x .to) (x .led)) []) (walk-in (s .held) (landing (x .from) (x .q)) path)
+
+-- what load took has the link i lead as x says
+pub record Leads (L : Loaded) (r : Raw) (f : Found) (i : ℕ) (x : Lead) : Type 0 where
+  pub stands : Stands L r f
+  pub carries : Carries L (r .shape)
+  pub accepted : Accepted L
+  pub from : i < L .source-links → L .source-from i ≡ x .from
+  pub to : i < L .source-links → L .source-to i ≡ x .to
+  pub led : i < L .source-links → x .q < L .count (x .from) → L .lead i (x .q) ≡ x .led
+
+abbrev pub Leading : Raw → Found → ℕ → Lead → Type 0
+Leading r f i x = (L : Loaded) × Leads L r f i x

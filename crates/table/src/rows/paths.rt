@@ -1,25 +1,35 @@
 // The paths of the problem that stands in a table's own words, and the checks along them.
 ghost use mathlib.Core.Path.{_≡_};
 ghost use mathlib.Core.Bool.{_&&_};
-ghost use lib.Dec.{eqb};
+ghost use lib.Dec.{eqb, ltb};
 ghost use Rattle.problems.specs.Tokens.{shown-token};
 ghost use Rattle.machine.specs.Loaded.{Loaded};
 ghost use Rattle.machine.specs.State.{lives};
-ghost use Rattle.machine.specs.Checking.{rule-effect};
-ghost use Rattle.machine.specs.Calls.{check-rule, apply, rule-fault};
+ghost use Rattle.machine.specs.Checking.{rule-effect, link-effect};
+ghost use Rattle.machine.specs.Calls.{check-rule, check-link, apply, rule-fault, link-fault};
 ghost use Rattle.machine.specs.Tables.{outcome, answered};
 ghost use Rattle.table.specs.Layout.{Fits, Tidy, Becomes};
-ghost use Rattle.table.specs.View.{raw, view};
+ghost use Rattle.table.specs.View.{raw, view, has};
 ghost use Rattle.table.specs.Walks.{links};
-ghost use Rattle.table.specs.Standing.{Stands, Standing, parts-in, shown-parts, linked, rule-of, rule-found, shown-found};
-use crate::checking::Effect;
+ghost use Rattle.table.specs.Standing.{Stands, Standing, parts-in, shown-parts, linked, rule-of, rule-found, shown-found, checked, led-effect, Leads, Leading};
+use crate::rows::checking::Effect;
 use crate::rows::Rows;
+use crate::rows::Slot;
 use machine::answers::Outcome;
 use words::faults::Refusal;
 use problems::Found;
 use problems::link_map_at;
 use problems::rule_at;
 use words::tokens::Token;
+
+// The record `q` of the source kind `from`, and the record `led` of the kind `to` that a source link leads it to.
+#[derive(Clone, Copy)]
+pub struct Lead {
+    pub from: u32,
+    pub q: u32,
+    pub to: u32,
+    pub led: u32,
+}
 
 // The parts of a token: a rule's first kind and two paths, or a link map's link and path.
 fn parts_in<'b>(token: Option<Token<'b>>) -> Option<(u32, &'b [u32], &'b [u32])>
@@ -92,6 +102,44 @@ impl Rows<'_> {
     {
         let rule = self.rule(found, i);
         match self.rule_found(rule, e) {
+            Err(fault) => Err(fault),
+            Ok(what) => Ok(self.act(what)),
+        }
+    }
+
+    // Whether there is the source link `i`, and the record that it leads.
+    fn has_lead(&self, found: &Found, i: usize, lead: Lead) -> bool
+        requires { ⌜ Fits (raw (now self)) ⌝ }
+        ensures { λ r. ⌜ r ≡ (ltb i (now (found .entry) .source .links) && has (now (self .entry)) (Slot.Landing (lead .from) (lead .q))) ⌝ }
+    {
+        i < found.source.links && self.has(Slot::Landing(lead.from, lead.q))
+    }
+
+    // What the check of a source link finds where it leads as `lead` says, or why it is refused; `there` says whether it does lead there.
+    fn link_found(&self, there: bool, lead: Lead, path: &[u32]) -> Result<Effect, Refusal>
+        requires { ⌜ Fits (raw (now self)) ⌝ }
+        ensures { λ r. ⌜ shown-found r ≡ checked (view (now (self .entry))) there (led-effect (view (now (self .entry))) lead (links (now (path .entry)))) ⌝ }
+    {
+        if self.waits > 0 {
+            return Err(Refusal::Waiting);
+        }
+        if there {
+            Ok(self.link_effect(lead.from, lead.q, lead.to, lead.led, path))
+        } else {
+            Err(Refusal::NotLiving)
+        }
+    }
+
+    // Checks the source link `i` where it leads as `lead` says.
+    pub fn check_link(&mut self, found: &Found, i: usize, lead: Lead) -> Result<Outcome, Refusal>
+        requires { ⌜ Tidy (raw (now self)) ⌝ }
+        requires { ⌜ Leading (raw (now self)) (now found) i lead ⌝ }
+        ensures is { λ r. ⌜ ((L : Loaded) → Leads L (raw (now (self .entry))) (now (found .entry)) i lead → r ≡ answered (link-fault L (view (now (self .entry))) i (lead .q)) (outcome (link-effect L (view (now (self .entry))) i (lead .q)))) ⌝ }
+        ensures after { λ _. ⌜ ((L : Loaded) → Leads L (raw (now (self .entry))) (now (found .entry)) i lead → Becomes (raw (now (self .entry))) (apply L (check-link i (lead .q))) (raw (now (self .exit)))) ⌝ }
+    {
+        let there = self.has_lead(found, i, lead);
+        let path = self.link_path(found, i);
+        match self.link_found(there, lead, path) {
             Err(fault) => Err(fault),
             Ok(what) => Ok(self.act(what)),
         }

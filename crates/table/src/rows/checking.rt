@@ -10,7 +10,7 @@ ghost use Rattle.table.specs.View.{raw, view};
 ghost use Rattle.table.specs.Walks.{links, found, shown-side, shown-effect, Named};
 use crate::rows::Rows;
 use crate::rows::Slot;
-use crate::walking::Side;
+use crate::rows::walking::Side;
 use machine::answers::Outcome;
 
 // What a check is to do: nothing, since it closes; merge two entries; fill a slot; or nothing, since too much is missing.
