@@ -56,7 +56,7 @@ module _ (r : Raw) (e : ℕ) where
 
 -- a check of a rule, as the machine has it
 module _ (L : Loaded) (s : State) (e i : ℕ) where
-  pub rule-answered : rule-found s e (rule-of L i) ≡ answered (rule-fault L s e i) (rule-effect L s e i)
+  rule-answered : rule-found s e (rule-of L i) ≡ answered (rule-fault L s e i) (rule-effect L s e i)
   rule-answered = elim (cases-bool (waits (s .waiting))) [
       inl w ↦ rw w
     | inr w ↦ elim (cases-bool (lives s e)) [
@@ -65,7 +65,7 @@ module _ (L : Loaded) (s : State) (e i : ℕ) where
         | inr t ↦ rw (w, t, l) ]
       | inr l ↦ elim (cases-bool (ltb i (L .rules))) [ inl t ↦ rw (w, t, l) | inr t ↦ rw (w, t, l) ] ] ]
 
-  pub rule-told : (o : Option Parts) (x : Result Effect Refusal) → o ≡ rule-of L i → x ≡ rule-found s e o → x ≡ answered (rule-fault L s e i) (rule-effect L s e i)
+  rule-told : (o : Option Parts) (x : Result Effect Refusal) → o ≡ rule-of L i → x ≡ rule-found s e o → x ≡ answered (rule-fault L s e i) (rule-effect L s e i)
   rule-told o x q p = p ∙ ap (rule-found s e) q ∙ rule-answered
 
 -- what was not refused, and what was
@@ -92,17 +92,19 @@ module _ (L : Loaded) (r : Raw) (tidy : Tidy r) (e i : ℕ) where
     let c = b .0 in
     grind (arith, tells)
 
-  pub rule-acts : (f : Found) → Stands L r f → (y : Effect) → Ok y ≡ answered (rule-fault L (shown r) e i) (rule-effect L (shown r) e i) → Named r y
-  rule-acts f st y h =
-    let a = told-ok (rule-fault L (shown r) e i) (rule-effect L (shown r) e i) y h in
-    subst (Named r) (sym (a .1)) (rule-named L r f st i tidy e (rule-given (a .0)))
+  module _ (o : Option Parts) (q : o ≡ rule-of L i) where
+    pub rule-acts : (f : Found) → Stands L r f → (y : Effect) → Ok y ≡ rule-found (shown r) e o → Named r y
+    rule-acts f st y p =
+      let a = told-ok (rule-fault L (shown r) e i) (rule-effect L (shown r) e i) y (rule-told L (shown r) e i o (Ok y) q p) in
+      subst (Named r) (sym (a .1)) (rule-named L r f st i tidy e (rule-given (a .0)))
 
-  module _ (f : Refusal) (h : Err f ≡ answered (rule-fault L (shown r) e i) (rule-effect L (shown r) e i)) where
-    pub rule-refused : Err f ≡ answered (rule-fault L (shown r) e i) (outcome (rule-effect L (shown r) e i))
-    rule-refused = refused-told (rule-fault L (shown r) e i) (rule-effect L (shown r) e i) f h
+    module _ (f : Refusal) (p : Err f ≡ rule-found (shown r) e o) where
+      pub rule-refused : Err f ≡ answered (rule-fault L (shown r) e i) (outcome (rule-effect L (shown r) e i))
+      rule-refused = refused-told (rule-fault L (shown r) e i) (rule-effect L (shown r) e i) f (rule-told L (shown r) e i o (Err f) q p)
 
-    pub rule-kept : Becomes r (apply L (check-rule e i)) r
-    rule-kept = becomes-as r r (λ s. s) (apply L (check-rule e i)) (becomes-none r tidy) (refused-kept (rule-fault L (shown r) e i) (rule-effect L (shown r) e i) f h (shown r) _)
+      pub rule-kept : Becomes r (apply L (check-rule e i)) r
+      rule-kept = becomes-as r r (λ s. s) (apply L (check-rule e i)) (becomes-none r tidy)
+        (refused-kept (rule-fault L (shown r) e i) (rule-effect L (shown r) e i) f (rule-told L (shown r) e i o (Err f) q p) (shown r) _)
 
 -- a source link, by the tests of the code
 module _ (r : Raw) (there : Bool) (x : Effect) where
@@ -155,14 +157,13 @@ module _ (L : Loaded) (r : Raw) (f : Found) (i : ℕ) (x : Lead) (l : Leads L r 
     let d = l .led (c .0) m in
     λ j. sides (walk-in (shown r .held) (landing (sym b j) (sym d j)) []) (walk-in (shown r .held) (landing (sym a j) (x .q)) (q j))
 
-  pub link-told : (there : Bool) (path : List ℕ) (z : Result Effect Refusal) → there ≡ (ltb i (f .source .links) && inside (r .shape) (r .given) (landing (x .from) (x .q))) → path ≡ L .link-map i →
-    z ≡ checked (shown r) there (led-effect (shown r) x path) → z ≡ answered (link-fault L (shown r) i (x .q)) (link-effect L (shown r) i (x .q))
-  link-told there path z t q p = p ∙ checked-as (shown r) there _ _ _ (t ∙ same-test) (same-found path q)
+  module _ (tidy : Tidy r) (there : Bool) (path : List ℕ) (t : there ≡ (ltb i (f .source .links) && inside (r .shape) (r .given) (landing (x .from) (x .q)))) (q : path ≡ L .link-map i) where
+    link-told : (z : Result Effect Refusal) → z ≡ checked (shown r) there (led-effect (shown r) x path) → z ≡ answered (link-fault L (shown r) i (x .q)) (link-effect L (shown r) i (x .q))
+    link-told z p = p ∙ checked-as (shown r) there _ _ _ (t ∙ same-test) (same-found path q)
 
-  module _ (tidy : Tidy r) where
-    pub link-acts : (y : Effect) → Ok y ≡ answered (link-fault L (shown r) i (x .q)) (link-effect L (shown r) i (x .q)) → Named r y
-    link-acts y h =
-      let a = told-ok (link-fault L (shown r) i (x .q)) (link-effect L (shown r) i (x .q)) y h in
+    pub link-acts : (y : Effect) → Ok y ≡ checked (shown r) there (led-effect (shown r) x path) → Named r y
+    link-acts y p =
+      let a = told-ok (link-fault L (shown r) i (x .q)) (link-effect L (shown r) i (x .q)) y (link-told (Ok y) p) in
       let b = cond-some (waits (shown r .waiting)) refusal.Waiting _ (a .0) in
       let c = counted (cond-else (ltb i (L .source-links) && ltb (x .q) (L .count (L .source-from i))) refusal.NotLiving None (b .1) .0) in
       let to : Slot = landing (L .source-to i) (L .lead i (x .q)) in
@@ -171,9 +172,10 @@ module _ (L : Loaded) (r : Raw) (f : Found) (i : ℕ) (x : Lead) (l : Leads L r 
         (walk-in-comes r tidy [] to (within-landing (L .source-to i) (L .lead i (x .q)) (l .accepted .to-in i (c .0)) (l .accepted .lead-in i (x .q) (c .0) (c .1))) tt)
         (walk-in-comes r tidy (L .link-map i) from (within-landing (L .source-from i) (x .q) (l .accepted .from-in i (c .0)) (c .1)) (map-links L r f (l .stands) i)))
 
-    module _ (g : Refusal) (h : Err g ≡ answered (link-fault L (shown r) i (x .q)) (link-effect L (shown r) i (x .q))) where
+    module _ (g : Refusal) (p : Err g ≡ checked (shown r) there (led-effect (shown r) x path)) where
       pub link-refused : Err g ≡ answered (link-fault L (shown r) i (x .q)) (outcome (link-effect L (shown r) i (x .q)))
-      link-refused = refused-told (link-fault L (shown r) i (x .q)) (link-effect L (shown r) i (x .q)) g h
+      link-refused = refused-told (link-fault L (shown r) i (x .q)) (link-effect L (shown r) i (x .q)) g (link-told (Err g) p)
 
       pub link-kept : Becomes r (apply L (check-link i (x .q))) r
-      link-kept = becomes-as r r (λ s. s) (apply L (check-link i (x .q))) (becomes-none r tidy) (refused-kept (link-fault L (shown r) i (x .q)) (link-effect L (shown r) i (x .q)) g h (shown r) _)
+      link-kept = becomes-as r r (λ s. s) (apply L (check-link i (x .q))) (becomes-none r tidy)
+        (refused-kept (link-fault L (shown r) i (x .q)) (link-effect L (shown r) i (x .q)) g (link-told (Err g) p) (shown r) _)
