@@ -51,19 +51,22 @@ module _ (r : Raw) (e : ℕ) where
       found-lost h = rw (calm r quiet, q, ← h) refl
 
       pub found-there : true ≡ (lives (shown r) e && eqb (shown r .kind e) (x .0)) →
-        (y : Effect) → y ≡ sides (walk (shown r .held) e (links (x .1 .now))) (walk (shown r .held) e (links (x .2 .now))) → Ok y ≡ rule-found (shown r) e (linked (shown-parts o))
+          (y : Effect) → y ≡ sides (walk (shown r .held) e (links (x .1 .now))) (walk (shown r .held) e (links (x .2 .now))) → Ok y ≡ rule-found (shown r) e (linked (shown-parts o))
       found-there h y p = rw (calm r quiet, q, ← h, p) refl
 
 -- a check of a rule, as the machine has it
 module _ (L : Loaded) (s : State) (e i : ℕ) where
   rule-answered : rule-found s e (rule-of L i) ≡ answered (rule-fault L s e i) (rule-effect L s e i)
   rule-answered = elim (cases-bool (waits (s .waiting))) [
-      inl w ↦ rw w
+    | inl w ↦ rw w
     | inr w ↦ elim (cases-bool (lives s e)) [
-        inl l ↦ elim (cases-bool (ltb i (L .rules))) [
-          inl t ↦ elim (cases-bool (eqb (s .kind e) (L .first i))) [ inl k ↦ rw (w, t, l, k) | inr k ↦ rw (w, t, l, k) ]
-        | inr t ↦ rw (w, t, l) ]
-      | inr l ↦ elim (cases-bool (ltb i (L .rules))) [ inl t ↦ rw (w, t, l) | inr t ↦ rw (w, t, l) ] ] ]
+      | inl l ↦ elim (cases-bool (ltb i (L .rules))) [
+        | inl t ↦ elim (cases-bool (eqb (s .kind e) (L .first i))) [ inl k ↦ rw (w, t, l, k) | inr k ↦ rw (w, t, l, k) ]
+        | inr t ↦ rw (w, t, l)
+      ]
+      | inr l ↦ elim (cases-bool (ltb i (L .rules))) [ inl t ↦ rw (w, t, l) | inr t ↦ rw (w, t, l) ]
+    ]
+  ]
 
   rule-told : (o : Option Parts) (x : Result Effect Refusal) → o ≡ rule-of L i → x ≡ rule-found s e o → x ≡ answered (rule-fault L s e i) (rule-effect L s e i)
   rule-told o x q p = p ∙ ap (rule-found s e) q ∙ rule-answered
@@ -87,16 +90,16 @@ module _ (L : Loaded) (r : Raw) (tidy : Tidy r) (e i : ℕ) where
   -- where it is not refused, the entry was given
   rule-given : rule-fault L (shown r) e i ≡ None → e < r .given
   rule-given h =
-    let a = cond-some (waits (shown r .waiting)) refusal.Waiting _ h in
-    let b = cond-else (lives (shown r) e && (ltb i (L .rules) && eqb (shown r .kind e) (L .first i))) refusal.NotLiving None (a .1) in
-    let c = b .0 in
-    grind (arith, tells)
+      let a = cond-some (waits (shown r .waiting)) refusal.Waiting _ h in
+      let b = cond-else (lives (shown r) e && (ltb i (L .rules) && eqb (shown r .kind e) (L .first i))) refusal.NotLiving None (a .1) in
+      let c = b .0 in
+      grind (arith, tells)
 
   module _ (o : Option Parts) (q : o ≡ rule-of L i) where
     pub rule-acts : (f : Found) → Stands L r f → (y : Effect) → Ok y ≡ rule-found (shown r) e o → Named r y
     rule-acts f st y p =
-      let a = told-ok (rule-fault L (shown r) e i) (rule-effect L (shown r) e i) y (rule-told L (shown r) e i o (Ok y) q p) in
-      subst (Named r) (sym (a .1)) (rule-named L r f st i tidy e (rule-given (a .0)))
+        let a = told-ok (rule-fault L (shown r) e i) (rule-effect L (shown r) e i) y (rule-told L (shown r) e i o (Ok y) q p) in
+        subst (Named r) (sym (a .1)) (rule-named L r f st i tidy e (rule-given (a .0)))
 
     module _ (f : Refusal) (p : Err f ≡ rule-found (shown r) e o) where
       pub rule-refused : Err f ≡ answered (rule-fault L (shown r) e i) (outcome (rule-effect L (shown r) e i))
@@ -104,7 +107,7 @@ module _ (L : Loaded) (r : Raw) (tidy : Tidy r) (e i : ℕ) where
 
       pub rule-kept : Becomes r (apply L (check-rule e i)) r
       rule-kept = becomes-as r r (λ s. s) (apply L (check-rule e i)) (becomes-none r tidy)
-        (refused-kept (rule-fault L (shown r) e i) (rule-effect L (shown r) e i) f (rule-told L (shown r) e i o (Err f) q p) (shown r) _)
+          (refused-kept (rule-fault L (shown r) e i) (rule-effect L (shown r) e i) f (rule-told L (shown r) e i o (Err f) q p) (shown r) _)
 
 -- a source link, by the tests of the code
 module _ (r : Raw) (there : Bool) (x : Effect) where
@@ -120,8 +123,9 @@ module _ (r : Raw) (there : Bool) (x : Effect) where
 
 checked-as : (s : State) (a b : Bool) (x y : Effect) → a ≡ b → (b ≡ true → x ≡ y) → checked s a x ≡ answered (cond (waits (s .waiting)) (Some refusal.Waiting) (cond b None (Some refusal.NotLiving))) y
 checked-as s a b x y q p = elim (cases-bool (waits (s .waiting))) [
-    inl w ↦ rw w
-  | inr w ↦ elim (cases-bool b) [ inl h ↦ rw (w, q, h, p h) | inr h ↦ rw (w, q, h) ] ]
+  | inl w ↦ rw w
+  | inr w ↦ elim (cases-bool b) [ inl h ↦ rw (w, q, h, p h) | inr h ↦ rw (w, q, h) ]
+]
 
 abbrev source-links : Result Seen SchemaFault → ℕ
 source-links (Ok s) = s .source .links
@@ -130,32 +134,33 @@ source-links (Err e) = 0
 module _ (L : Loaded) (r : Raw) (f : Found) (i : ℕ) (x : Lead) (l : Leads L r f i x) where
   within-landing : (k q : ℕ) → k < L .source-kinds → q < L .count k → Within (r .shape) (r .given) (landing k q)
   within-landing k q h m =
-    let a : k < r .shape .kinds = omega (arith, l .carries .kinds) in
-    (a, omega (arith, l .carries .counts k a))
+      let a : k < r .shape .kinds = omega (arith, l .carries .kinds) in
+      (a, omega (arith, l .carries .counts k a))
 
   source-links-told : f .source .links ≡ L .source-links
   source-links-told = ap source-links (l .stands .told) ∙ sym (ap (λ (M : Loaded). M .source-links) (l .stands .takes))
 
   same-test : (ltb i (f .source .links) && inside (r .shape) (r .given) (landing (x .from) (x .q))) ≡ (ltb i (L .source-links) && ltb (x .q) (L .count (L .source-from i)))
   same-test = elim (leb-tells (suc i) (L .source-links)) [
-      inl t ↦ (
+    | inl t ↦ (
         let a : L .source-from i ≡ x .from = l .from (t .1) in
         let k : x .from < r .shape .kinds = omega (arith, a, l .accepted .from-in i (t .1), l .carries .kinds) in
         let b : ltb (x .from) (r .shape .kinds) ≡ true = grind (arith, tells) in
         rw (source-links-told, t .0, b, a, l .carries .counts (x .from) k) refl)
-    | inr t ↦ rw (source-links-told, t .0) refl ]
+    | inr t ↦ rw (source-links-told, t .0) refl
+  ]
 
   counted : (ltb i (L .source-links) && ltb (x .q) (L .count (L .source-from i))) ≡ true → (i < L .source-links) × (x .q < L .count (L .source-from i))
   counted h = let b = and-parts (ltb i (L .source-links)) (ltb (x .q) (L .count (L .source-from i))) h in (ltb-true i (L .source-links) (b .0), ltb-true (x .q) (L .count (L .source-from i)) (b .1))
 
   same-found : (path : List ℕ) → path ≡ L .link-map i → (ltb i (L .source-links) && ltb (x .q) (L .count (L .source-from i))) ≡ true → led-effect (shown r) x path ≡ link-effect L (shown r) i (x .q)
   same-found path q h =
-    let c = counted h in
-    let a = l .from (c .0) in
-    let b = l .to (c .0) in
-    let m : x .q < L .count (x .from) = subst (λ k. x .q < L .count k) a (c .1) in
-    let d = l .led (c .0) m in
-    λ j. sides (walk-in (shown r .held) (landing (sym b j) (sym d j)) []) (walk-in (shown r .held) (landing (sym a j) (x .q)) (q j))
+      let c = counted h in
+      let a = l .from (c .0) in
+      let b = l .to (c .0) in
+      let m : x .q < L .count (x .from) = subst (λ k. x .q < L .count k) a (c .1) in
+      let d = l .led (c .0) m in
+      λ j. sides (walk-in (shown r .held) (landing (sym b j) (sym d j)) []) (walk-in (shown r .held) (landing (sym a j) (x .q)) (q j))
 
   module _ (tidy : Tidy r) (there : Bool) (path : List ℕ) (t : there ≡ (ltb i (f .source .links) && inside (r .shape) (r .given) (landing (x .from) (x .q)))) (q : path ≡ L .link-map i) where
     link-told : (z : Result Effect Refusal) → z ≡ checked (shown r) there (led-effect (shown r) x path) → z ≡ answered (link-fault L (shown r) i (x .q)) (link-effect L (shown r) i (x .q))
@@ -163,12 +168,12 @@ module _ (L : Loaded) (r : Raw) (f : Found) (i : ℕ) (x : Lead) (l : Leads L r 
 
     pub link-acts : (y : Effect) → Ok y ≡ checked (shown r) there (led-effect (shown r) x path) → Named r y
     link-acts y p =
-      let a = told-ok (link-fault L (shown r) i (x .q)) (link-effect L (shown r) i (x .q)) y (link-told (Ok y) p) in
-      let b = cond-some (waits (shown r .waiting)) refusal.Waiting _ (a .0) in
-      let c = counted (cond-else (ltb i (L .source-links) && ltb (x .q) (L .count (L .source-from i))) refusal.NotLiving None (b .1) .0) in
-      let to : Slot = landing (L .source-to i) (L .lead i (x .q)) in
-      let from : Slot = landing (L .source-from i) (x .q) in
-      subst (Named r) (sym (a .1)) (sides-named r tidy (walk-in (shown r .held) to []) (walk-in (shown r .held) from (L .link-map i))
+        let a = told-ok (link-fault L (shown r) i (x .q)) (link-effect L (shown r) i (x .q)) y (link-told (Ok y) p) in
+        let b = cond-some (waits (shown r .waiting)) refusal.Waiting _ (a .0) in
+        let c = counted (cond-else (ltb i (L .source-links) && ltb (x .q) (L .count (L .source-from i))) refusal.NotLiving None (b .1) .0) in
+        let to : Slot = landing (L .source-to i) (L .lead i (x .q)) in
+        let from : Slot = landing (L .source-from i) (x .q) in
+        subst (Named r) (sym (a .1)) (sides-named r tidy (walk-in (shown r .held) to []) (walk-in (shown r .held) from (L .link-map i))
         (walk-in-comes r tidy [] to (within-landing (L .source-to i) (L .lead i (x .q)) (l .accepted .to-in i (c .0)) (l .accepted .lead-in i (x .q) (c .0) (c .1))) tt)
         (walk-in-comes r tidy (L .link-map i) from (within-landing (L .source-from i) (x .q) (l .accepted .from-in i (c .0)) (c .1)) (map-links L r f (l .stands) i)))
 
@@ -178,4 +183,4 @@ module _ (L : Loaded) (r : Raw) (f : Found) (i : ℕ) (x : Lead) (l : Leads L r 
 
       pub link-kept : Becomes r (apply L (check-link i (x .q))) r
       link-kept = becomes-as r r (λ s. s) (apply L (check-link i (x .q))) (becomes-none r tidy)
-        (refused-kept (link-fault L (shown r) i (x .q)) (link-effect L (shown r) i (x .q)) g (link-told (Err g) p) (shown r) _)
+          (refused-kept (link-fault L (shown r) i (x .q)) (link-effect L (shown r) i (x .q)) g (link-told (Err g) p) (shown r) _)

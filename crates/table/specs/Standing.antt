@@ -88,7 +88,7 @@ shown-found (Err f) = Err f
 abbrev pub with-rule : State → ℕ → Option Parts → Result check.Effect Refusal
 with-rule s e None = Err refusal.NotLiving
 with-rule s e (Some x) =
-  cond (lives s e && eqb (s .kind e) (x .0)) (Ok (check.sides (walk (s .held) e (x .1)) (walk (s .held) e (x .2)))) (Err refusal.NotLiving)
+    cond (lives s e && eqb (s .kind e) (x .0)) (Ok (check.sides (walk (s .held) e (x .1)) (walk (s .held) e (x .2)))) (Err refusal.NotLiving)
 
 abbrev pub rule-found : State → ℕ → Option Parts → Result check.Effect Refusal
 rule-found s e o = cond (waits (s .waiting)) (Err refusal.Waiting) (with-rule s e o)

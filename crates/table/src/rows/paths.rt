@@ -12,14 +12,14 @@ ghost use Rattle.table.specs.Layout.{Fits, Tidy, Becomes};
 ghost use Rattle.table.specs.View.{raw, view, has};
 ghost use Rattle.table.specs.Walks.{links};
 ghost use Rattle.table.specs.Standing.{Stands, Standing, parts-in, shown-parts, linked, rule-of, rule-found, shown-found, checked, led-effect, Leads, Leading};
-use crate::rows::checking::Effect;
 use crate::rows::Rows;
 use crate::rows::Slot;
+use crate::rows::checking::Effect;
 use machine::answers::Outcome;
-use words::faults::Refusal;
 use problems::Found;
 use problems::link_map_at;
 use problems::rule_at;
+use words::faults::Refusal;
 use words::tokens::Token;
 
 // The record `q` of the source kind `from`, and the record `led` of the kind `to` that a source link leads it to.
@@ -39,7 +39,12 @@ fn parts_in<'b>(token: Option<Token<'b>>) -> Option<(u32, &'b [u32], &'b [u32])>
         return None;
     };
     match token {
-        Token::Rule { first, left, right, .. } => Some((first, left, right)),
+        Token::Rule {
+            first,
+            left,
+            right,
+            ..
+        } => Some((first, left, right)),
         Token::LinkMap { link, path, .. } => Some((link, path, &[])),
         _ => None,
     }

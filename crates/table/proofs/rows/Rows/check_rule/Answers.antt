@@ -4,9 +4,9 @@ use Rattle.table.proofs.rows.Rows.check_rule.Needs as need
 
 pub act-requires : need.act-requires
 act-requires c κs =
-  let L = c .pre .1 .0 in
-  let st = c .pre .1 .1 in
-  (c .pre .0, rule-acts L (raw (c .args .self .now)) (c .pre .0) (c .args .e) (c .args .i) _ (c .rule-rule .ensures L st) (c .args .found .now) st _ (c .in-Ok .ensures tt))
+    let L = c .pre .1 .0 in
+    let st = c .pre .1 .1 in
+    (c .pre .0, rule-acts L (raw (c .args .self .now)) (c .pre .0) (c .args .e) (c .args .i) _ (c .rule-rule .ensures L st) (c .args .found .now) st _ (c .in-Ok .ensures tt))
 
 pub returns-in-Err : need.returns-in-Err
 returns-in-Err c = record {

@@ -7,4 +7,4 @@ use Rattle.table.proofs.rows.Rows.rule.Needs as need
 
 pub returns : need.returns
 returns c L st =
-  ap linked (c .parts-in .ensures) ∙ rule-stands L (raw (c .args .self .now)) (c .args .found .now) st (c .args .i) (shown-token (c .rule-at .result)) (c .rule-at .ensures .known)
+    ap linked (c .parts-in .ensures) ∙ rule-stands L (raw (c .args .self .now)) (c .args .found .now) st (c .args .i) (shown-token (c .rule-at .result)) (c .rule-at .ensures .known)
