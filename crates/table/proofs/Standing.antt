@@ -31,8 +31,9 @@ use Rattle.machine.specs.Loaded.{Loaded}
 use Rattle.machine.specs.Loading.{taken}
 use Rattle.machine.specs.Walking.{walk}
 use Rattle.machine.specs.Checking.{rule-effect}
-use Rattle.table.specs.Layout.{Raw, Tidy, shown}
+use Rattle.table.specs.Layout.{Raw, Shape, Same, Tidy, shown}
 use Rattle.table.specs.Walks.{links, Named}
+use Rattle.table.proofs.Bridge.{same-problem}
 use Rattle.table.proofs.Named.{Below, walk-comes, sides-named}
 use Rattle.table.specs.Standing.{Stands, parts-in, linked, path-in, rule-of}
 
@@ -124,3 +125,14 @@ module _ (L : Loaded) (r : Raw) (f : Found) (st : Stands L r f) (i : ℕ) where
   rule-named tidy e h =
       let k = rule-links in
       sides-named r tidy (walk (shown r .held) e (L .left i)) (walk (shown r .held) e (L .right i)) (walk-comes r tidy (L .left i) e h (k .0)) (walk-comes r tidy (L .right i) e h (k .1))
+
+-- a call leaves the problem standing
+pub same-stands : (L : Loaded) (a b : Raw) (f : Found) → Same a b → Stands L a f → Stands L b f
+same-stands L a b f e st = record {
+  problem = st .problem;
+  source = st .source;
+  reads = ap (λ (h : Shape). read (take (h .lands) (b .ws))) (e .shape) ∙ ap read (same-problem a b e) ∙ st .reads;
+  told = st .told;
+  takes = st .takes ∙ ap (λ (h : Shape). taken (st .problem) (st .source) (h .capacity)) (sym (e .shape));
+  links = st .links ∙ ap (λ (h : Shape). h .links) (sym (e .shape));
+}
