@@ -1,6 +1,3 @@
-pub mod Standing
-pub mod Walks
-pub mod Named
 pub mod Places
 pub mod Writes
 pub mod Shown
@@ -9,6 +6,10 @@ pub mod Reheld
 pub mod Settled
 pub mod Faults
 pub mod Bridge
+pub mod Walks
+pub mod Named
+pub mod Standing
+pub mod Checks
 pub mod SweepStates
 pub mod SweepSteps
 pub mod SweepMoves
@@ -17,10 +18,6 @@ pub mod LoadCopies
 pub mod LoadSource
 pub mod LoadWords
 pub mod LoadKept
-pub mod Reheld
-pub mod Settled
-pub mod Faults
-pub mod Bridge
 pub mod Ghosts
 pub mod After
 pub mod Outline

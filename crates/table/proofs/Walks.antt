@@ -1,8 +1,8 @@
 -- A walk by the first and by the last step of its path.
 use mathlib.Core.Path.{_≡_, refl, sym, ap, _∙_}
 use mathlib.Core.Bool.{true, false}
-use mathlib.Core.List.{List, [], _∷_, _++_, map}
-use Prim.Native.Nat.{ℕ, zero, suc, _+_, _-_, _≤_, _<_}
+use mathlib.Core.List.{List, [], _∷_, _++_}
+use Prim.Native.Nat.{ℕ, _+_, _-_, _≤_, _<_}
 use native.Mathlib.Numerals.{add-one}
 use native.Mathlib.Omega.{arith}
 use lib.Dec.{eqb}
@@ -43,8 +43,9 @@ module _ (h : Slot → Option ℕ) where
   unfolding walk
   walk-last [] l e = refl
   walk-last (m ∷ ls) l e = elim (h (cell e m)) as (λ o. side-of (on o (stopped (cell e m) (length (ls ++ l ∷ []))) (λ w. walk h w (ls ++ l ∷ []))) ≡ then-last h l (on o (stopped (cell e m) (length ls)) (λ w. walk h w ls))) [
-      None ↦ rw (length-push ls l, add-one (length ls))
-    | Some x ↦ walk-last ls l x ]
+    | None ↦ rw (length-push ls l, add-one (length ls))
+    | Some x ↦ walk-last ls l x
+  ]
 
   -- through a slot first
   pub step-filled : (t : Slot) (x : ℕ) → h t ≡ Some x → ends x ≡ side-of (walk-in h t [])
@@ -62,8 +63,8 @@ module _ (h : Slot → Option ℕ) where
   -- a path of words by its last step
   parted : (p : List ℕ) (e : ℕ) → 1 ≤ length p → side-of (walk h e (links p)) ≡ then-last h (fields (getD p (length p - 1) 0)) (walk h e (links (take (length p - 1) p)))
   parted p e n =
-    let whole : take (length p - 1 + 1) p ≡ p = take-all (length p - 1 + 1) p (omega arith) in
-    ap (λ (q : List ℕ). side-of (walk h e (links q))) (sym whole)
+      let whole : take (length p - 1 + 1) p ≡ p = take-all (length p - 1 + 1) p (omega arith) in
+      ap (λ (q : List ℕ). side-of (walk h e (links q))) (sym whole)
       ∙ ap (λ (ls : List ℕ). side-of (walk h e ls)) (map-more fields p (length p - 1) 0 (omega arith))
       ∙ walk-last (links (take (length p - 1) p)) (fields (getD p (length p - 1) 0)) e
 
@@ -79,5 +80,5 @@ module _ (h : Slot → Option ℕ) where
   side-far p e n o = early _ _ o ∙ sym (parted p e n)
 
   pub side-near : (p : List ℕ) (e x l : ℕ) → 1 ≤ length p → Some x ≡ ended-at (walk h e (links (take (length p - 1) p))) → l ≡ fields (getD p (length p - 1) 0) →
-    side-of (walk-in h (cell x l) []) ≡ side-of (walk h e (links p))
+      side-of (walk-in h (cell x l) []) ≡ side-of (walk h e (links p))
   side-near p e x l n o q = rw q (late _ x _ o ∙ sym (parted p e n))

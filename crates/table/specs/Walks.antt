@@ -11,10 +11,10 @@ use Rattle.machine.specs.Walking.{Walked, ended, stopped}
 use Rattle.machine.specs.Checking as check
 use Rattle.table.specs.Layout.{Raw, Within}
 use Rattle.table.specs.View.{slot}
-use Rattle.table.specs.declared.walking.Side.{Side}
-use Rattle.table.specs.declared.walking.Side.the-variants.{End, Gap, Far}
-use Rattle.table.specs.declared.checking.Effect.{Effect}
-use Rattle.table.specs.declared.checking.Effect.the-variants.{Closed, Merges, Fills, Stuck}
+use Rattle.table.specs.declared.rows.walking.Side.{Side}
+use Rattle.table.specs.declared.rows.walking.Side.the-variants.{End, Gap, Far}
+use Rattle.table.specs.declared.rows.checking.Effect.{Effect}
+use Rattle.table.specs.declared.rows.checking.Effect.the-variants.{Closed, Merges, Fills, Stuck}
 
 -- the links of a path's words
 abbrev pub links : List ℕ → List ℕ

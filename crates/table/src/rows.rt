@@ -12,8 +12,11 @@ ghost use Rattle.table.specs.View as place;
 ghost use Rattle.table.specs.Writes.{changed, emptied, added};
 
 pub mod calls;
+pub mod checking;
+pub mod paths;
 pub mod settle;
 pub mod sweep;
+pub mod walking;
 
 // The source's kinds: of each the number of its records and the place of its first landing.
 #[derive(Clone, Copy)]

@@ -14,5 +14,5 @@ returns-in-None c = side-far (view (c .args .self .now) .held) (c .args .path .n
 
 pub returns-in-Some : need.returns-in-Some
 returns-in-Some c =
-  c .step .ensures
+    c .step .ensures
     ∙ side-near (view (c .args .self .now) .held) (c .args .path .now) (c .args .e) (c .in-Some .x) (c .link .result) (omega (arith, ltb-false)) (c .in-Some .ensures tt) (c .link .ensures)

@@ -1,6 +1,4 @@
 use mathlib.Core.Path.{sym}
-use native.Mathlib.Omega.{arith}
-use borrow.Author.Tests.{eqb-true, eqb-false}
 use Rattle.table.specs.View.{view, slot}
 use Rattle.table.proofs.Walks.{in-empty, in-far}
 use Rattle.table.proofs.rows.Rows.side_in.Needs as need

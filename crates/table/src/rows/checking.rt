@@ -10,7 +10,7 @@ ghost use Rattle.table.specs.View.{raw, view};
 ghost use Rattle.table.specs.Walks.{links, found, shown-side, shown-effect, Named};
 use crate::rows::Rows;
 use crate::rows::Slot;
-use crate::walking::Side;
+use crate::rows::walking::Side;
 use machine::answers::Outcome;
 
 // What a check is to do: nothing, since it closes; merge two entries; fill a slot; or nothing, since too much is missing.
@@ -27,7 +27,8 @@ fn sides(left: Side, right: Side) -> Effect
     ensures { λ r. ⌜ shown-effect r ≡ found (shown-side left) (shown-side right) ⌝ }
 {
     match (left, right) {
-        (Side::End(a), Side::End(b)) => if a == b { Effect::Closed } else { Effect::Merges(a, b) },
+        (Side::End(a), Side::End(b)) if a == b => Effect::Closed,
+        (Side::End(a), Side::End(b)) => Effect::Merges(a, b),
         (Side::End(a), Side::Gap(t)) => Effect::Fills(t, a),
         (Side::Gap(t), Side::End(b)) => Effect::Fills(t, b),
         _ => Effect::Stuck,
@@ -49,7 +50,10 @@ impl Rows<'_> {
         requires { ⌜ Fits (raw (now self)) ⌝ }
         ensures { λ r. ⌜ shown-effect r ≡ sides (walk-in (view (now (self .entry)) .held) (landing to led) []) (walk-in (view (now (self .entry)) .held) (landing from q) (links (now (path .entry)))) ⌝ }
     {
-        sides(self.side_in(Slot::Landing(to, led), &[]), self.side_in(Slot::Landing(from, q), path))
+        sides(
+            self.side_in(Slot::Landing(to, led), &[]),
+            self.side_in(Slot::Landing(from, q), path),
+        )
     }
 
     // Does what a check found, and tells its outcome.
