@@ -24,7 +24,7 @@ use Rattle.machine.specs.Loaded.{Loaded}
 use Rattle.machine.specs.Loading.{load}
 use Rattle.machine.specs.State.{cell, landing}
 use Rattle.machine.specs.Sweeping.{rank}
-use Rattle.machine.specs.Calls.{define-fault}
+use Rattle.machine.specs.Calls.{land-fault, define-fault, rule-fault, link-fault}
 use Rattle.machine.specs.Shift.{End, complete, spent, full, Stepped, shift, begun}
 use Rattle.machine.specs.Finish.{finish}
 
@@ -39,7 +39,9 @@ pub record Run : Type 0 where
   pub waiting : ℕ
   pub landings : List (Option ℕ)
   pub cells : List (Option ℕ)
+  pub land : Option Refusal
   pub define : Option Refusal
+  pub elsewhere : List (Option Refusal)
   pub finish : Result (List ℕ) Refusal
 
 -- a refused load, an accepted one with its capacity, or a table after a shift
@@ -75,7 +77,9 @@ told-of L p = record {
   waiting = length (p .state .waiting);
   landings = by-rows (λ k r. p .state .held (landing k r)) (L .source-kinds) (L .count);
   cells = by-rows (λ e l. p .state .held (cell e l)) (p .state .given) (λ e. L .links);
+  land = land-fault L (p .state) 0 0;
   define = define-fault L (p .state) 0 0;
+  elsewhere = land-fault L (p .state) (L .source-kinds) 0 ∷ define-fault L (p .state) (p .state .given) 0 ∷ rule-fault L (p .state) (p .state .given) 0 ∷ link-fault L (p .state) (L .source-links) 0 ∷ [];
   finish = let r = finish L (p .state) (replicate 16 0) in then (r .0) (λ n. Ok (take n (r .1)));
 }
 
@@ -141,7 +145,9 @@ cases =
         waiting = 0;
         landings = Some 0 ∷ Some 1 ∷ Some 0 ∷ Some 1 ∷ Some 0 ∷ Some 1 ∷ [];
         cells = [];
+        land = Some refusal.Filled;
         define = Some refusal.NotLiving;
+        elsewhere = replicate 4 (Some refusal.NotLiving);
         finish = Ok (0x8000_0001 ∷ 0x9000_0002 ∷ 0xC006_0000 ∷ 0xB000_0000 ∷ 0xB000_0001 ∷ 0xB000_0000 ∷ 0xB000_0001 ∷ 0xB000_0000 ∷ 0xB000_0001 ∷ 0x7000_0009 ∷ []);
       });
     }
@@ -160,7 +166,9 @@ cases =
         waiting = 0;
         landings = Some 0 ∷ [];
         cells = Some 1 ∷ Some 2 ∷ Some 1 ∷ [];
+        land = Some refusal.Filled;
         define = Some refusal.Filled;
+        elsewhere = replicate 4 (Some refusal.NotLiving);
         finish = Ok (0x8000_0001 ∷ 0x9000_0003 ∷ 0xA000_0000 ∷ 0xB000_0001 ∷ 0xB000_0002 ∷ 0xB000_0001 ∷ 0xC001_0000 ∷ 0xB000_0000 ∷ 0x7000_0008 ∷ []);
       });
     }
@@ -179,7 +187,9 @@ cases =
         waiting = 0;
         landings = [];
         cells = [];
+        land = Some refusal.NotLiving;
         define = Some refusal.NotLiving;
+        elsewhere = replicate 4 (Some refusal.NotLiving);
         finish = Ok (0x8000_0001 ∷ 0x9000_0000 ∷ 0xA000_0000 ∷ 0xC000_0000 ∷ 0x7000_0004 ∷ []);
       });
     }
@@ -198,7 +208,9 @@ cases =
         waiting = 0;
         landings = Some 0 ∷ [];
         cells = Some 1 ∷ None ∷ [];
+        land = Some refusal.Filled;
         define = Some refusal.Filled;
+        elsewhere = replicate 4 (Some refusal.NotLiving);
         finish = Err refusal.Incomplete;
       });
     }
@@ -217,7 +229,9 @@ cases =
         waiting = 0;
         landings = Some 0 ∷ [];
         cells = None ∷ [];
+        land = Some refusal.Filled;
         define = Some refusal.Full;
+        elsewhere = replicate 4 (Some refusal.NotLiving);
         finish = Err refusal.Incomplete;
       });
     }
@@ -236,7 +250,9 @@ cases =
         waiting = 0;
         landings = Some 0 ∷ [];
         cells = Some 1 ∷ Some 0 ∷ [];
+        land = Some refusal.Filled;
         define = Some refusal.Filled;
+        elsewhere = replicate 4 (Some refusal.NotLiving);
         finish = Err refusal.Incomplete;
       });
     }
@@ -255,7 +271,9 @@ cases =
         waiting = 1;
         landings = Some 0 ∷ [];
         cells = Some 1 ∷ Some 0 ∷ [];
+        land = Some refusal.Waiting;
         define = Some refusal.Waiting;
+        elsewhere = replicate 4 (Some refusal.Waiting);
         finish = Err refusal.Waiting;
       });
     }
@@ -274,7 +292,9 @@ cases =
         waiting = 0;
         landings = Some 0 ∷ [];
         cells = Some 0 ∷ None ∷ [];
+        land = Some refusal.Filled;
         define = Some refusal.Filled;
+        elsewhere = replicate 4 (Some refusal.NotLiving);
         finish = Ok (0x8000_0001 ∷ 0x9000_0001 ∷ 0xA000_0000 ∷ 0xB000_0000 ∷ 0xC001_0000 ∷ 0xB000_0000 ∷ 0x7000_0006 ∷ []);
       });
     }
@@ -293,7 +313,9 @@ cases =
         waiting = 0;
         landings = Some 0 ∷ Some 0 ∷ Some 0 ∷ [];
         cells = [];
+        land = Some refusal.Filled;
         define = Some refusal.NotLiving;
+        elsewhere = replicate 4 (Some refusal.NotLiving);
         finish = Ok (0x8000_0001 ∷ 0x9000_0001 ∷ 0xC002_0000 ∷ 0xB000_0000 ∷ 0xB000_0000 ∷ 0xC001_0100 ∷ 0xB000_0000 ∷ 0x7000_0007 ∷ []);
       });
     }
@@ -344,7 +366,9 @@ cases =
         waiting = 0;
         landings = Some 0 ∷ [];
         cells = Some 1 ∷ Some 2 ∷ Some 1 ∷ [];
+        land = Some refusal.Filled;
         define = Some refusal.Filled;
+        elsewhere = replicate 4 (Some refusal.NotLiving);
         finish = Ok (0x8000_0001 ∷ 0x9000_0003 ∷ 0xA000_0000 ∷ 0xB000_0001 ∷ 0xB000_0002 ∷ 0xB000_0001 ∷ 0xC001_0000 ∷ 0xB000_0000 ∷ 0x7000_0008 ∷ []);
       });
     }
@@ -363,7 +387,9 @@ cases =
         waiting = 0;
         landings = Some 0 ∷ Some 1 ∷ Some 2 ∷ [];
         cells = [];
+        land = Some refusal.Filled;
         define = Some refusal.NotLiving;
+        elsewhere = replicate 4 (Some refusal.NotLiving);
         finish = Ok (0x8000_0001 ∷ 0x9000_0003 ∷ 0xC002_0000 ∷ 0xB000_0000 ∷ 0xB000_0001 ∷ 0xC001_0100 ∷ 0xB000_0002 ∷ 0x7000_0007 ∷ []);
       });
     }
@@ -382,7 +408,9 @@ cases =
         waiting = 0;
         landings = Some 0 ∷ [];
         cells = Some 1 ∷ Some 2 ∷ None ∷ None ∷ None ∷ Some 3 ∷ None ∷ None ∷ Some 4 ∷ None ∷ None ∷ Some 3 ∷ None ∷ None ∷ Some 4 ∷ [];
+        land = Some refusal.Filled;
         define = Some refusal.Filled;
+        elsewhere = replicate 4 (Some refusal.NotLiving);
         finish = Ok (0x8000_0002 ∷ 0x9000_0001 ∷ 0x9000_0004 ∷ 0xA000_0001 ∷ 0xB000_0000 ∷ 0xA000_0001 ∷ 0xB000_0001 ∷ 0xA000_0101 ∷ 0xB000_0002 ∷ 0xB000_0003 ∷ 0xB000_0002 ∷ 0xB000_0003 ∷ 0xC001_0000 ∷ 0xB000_0000 ∷ 0x7000_000E ∷ []);
       });
     }
@@ -401,7 +429,9 @@ cases =
         waiting = 0;
         landings = Some 0 ∷ Some 1 ∷ Some 2 ∷ Some 3 ∷ [];
         cells = None ∷ Some 4 ∷ Some 5 ∷ None ∷ Some 1 ∷ Some 1 ∷ [];
+        land = Some refusal.Filled;
         define = Some refusal.NotLiving;
+        elsewhere = replicate 4 (Some refusal.NotLiving);
         finish = Err refusal.Incomplete;
       });
     }
@@ -420,7 +450,9 @@ cases =
         waiting = 1;
         landings = Some 0 ∷ Some 1 ∷ Some 2 ∷ Some 3 ∷ [];
         cells = None ∷ Some 4 ∷ Some 5 ∷ None ∷ Some 1 ∷ Some 1 ∷ [];
+        land = Some refusal.Waiting;
         define = Some refusal.Waiting;
+        elsewhere = replicate 4 (Some refusal.Waiting);
         finish = Err refusal.Waiting;
       });
     }
@@ -439,7 +471,9 @@ cases =
         waiting = 1;
         landings = Some 0 ∷ Some 1 ∷ Some 1 ∷ Some 3 ∷ [];
         cells = None ∷ Some 4 ∷ None ∷ None ∷ Some 1 ∷ Some 1 ∷ [];
+        land = Some refusal.Waiting;
         define = Some refusal.Waiting;
+        elsewhere = replicate 4 (Some refusal.Waiting);
         finish = Err refusal.Waiting;
       });
     }
@@ -458,7 +492,9 @@ cases =
         waiting = 0;
         landings = Some 0 ∷ [];
         cells = Some 0 ∷ Some 0 ∷ None ∷ None ∷ None ∷ None ∷ [];
+        land = Some refusal.Filled;
         define = Some refusal.Filled;
+        elsewhere = replicate 4 (Some refusal.NotLiving);
         finish = Ok (0x8000_0001 ∷ 0x9000_0001 ∷ 0xA000_0000 ∷ 0xB000_0000 ∷ 0xA000_0000 ∷ 0xB000_0000 ∷ 0xC001_0000 ∷ 0xB000_0000 ∷ 0x7000_0008 ∷ []);
       });
     }
@@ -509,6 +545,27 @@ cases =
       work = 1000000;
       asked = loads;
       expected = accepted 65535;
+    }
+    ∷ record {
+      name = "two are led to the first, in forty-four words: a sweep, and then exactly as many steps as the budget has";
+      words = led-twice;
+      source = answers led-to-first;
+      work = 44;
+      asked = works 14;
+      expected = ran (record {
+        capacity = 6;
+        ended = Some complete;
+        steps = 14;
+        given = 5;
+        living = 5;
+        waiting = 0;
+        landings = Some 0 ∷ Some 1 ∷ Some 1 ∷ Some 2 ∷ [];
+        cells = None ∷ Some 3 ∷ Some 4 ∷ Some 1 ∷ Some 2 ∷ [];
+        land = Some refusal.Filled;
+        define = Some refusal.NotLiving;
+        elsewhere = replicate 4 (Some refusal.NotLiving);
+        finish = Ok (0x8000_0002 ∷ 0x9000_0004 ∷ 0x9000_0001 ∷ 0xA000_0000 ∷ 0xB000_0002 ∷ 0xB000_0003 ∷ 0xB000_0000 ∷ 0xB000_0001 ∷ 0xC001_0001 ∷ 0xB000_0000 ∷ 0xC002_0100 ∷ 0xB000_0000 ∷ 0xB000_0000 ∷ 0xC001_0200 ∷ 0xB000_0001 ∷ 0x7000_000F ∷ []);
+      });
     }
     ∷ []
 

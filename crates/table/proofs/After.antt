@@ -45,9 +45,9 @@ module _ (leads : List ℕ) (a b : Raw) (same : Same a b) where
 
   pub taken-still : ∥ Placed leads a ∥₁ → taken-shown leads b ≡ taken-shown leads a
   taken-still placed =
-    let at : (i q : ℕ) → lead (copy leads b) i q ≡ lead (copy leads a) i q =
+      let at : (i q : ℕ) → lead (copy leads b) i q ≡ lead (copy leads a) i q =
       λ i q. ∥∥₁-elim placed (ℕ-set _ _) (λ p. ap (λ m. lead m i q) (copy-same leads a b same p)) in
-    λ j. taken (problem-same leads a b same j) (record { kinds = 0; links = 0; ends = λ i. None; count = count-same leads a b same j; follow = λ i q. Some (at i q j) }) (same .shape j .capacity)
+      λ j. taken (problem-same leads a b same j) (record { kinds = 0; links = 0; ends = λ i. None; count = count-same leads a b same j; follow = λ i q. Some (at i q j) }) (same .shape j .capacity)
 
 -- what is known of a loaded table
 module _ (leads : List ℕ) (found : Found) (a : Raw) (reached : ∥ Reached leads found a ∥₁) where
@@ -56,11 +56,12 @@ module _ (leads : List ℕ) (found : Found) (a : Raw) (reached : ∥ Reached lea
     links = ∥∥₁-elim reached (ℕ-set _ _) (λ r. r .carries .links);
     capacity = ∥∥₁-elim reached (ℕ-set _ _) (λ r. r .carries .capacity);
     kinds = ∥∥₁-elim reached (ℕ-set _ _) (λ r. r .carries .kinds);
-    counts = λ k h. ∥∥₁-elim reached (ℕ-set _ _) (λ r. r .carries .counts k h) }
+    counts = λ k h. ∥∥₁-elim reached (ℕ-set _ _) (λ r. r .carries .counts k h);
+  }
 
   sound : Reached leads found a → Sound (taken-shown leads a) (shown a)
   sound r = subst (Sound (taken-shown leads a)) (sym (r .state))
-    (calls-good (taken-shown leads a) (accepted (length (a .ws)) (problem-words a) (copy leads a) (taken-shown leads a) (r .loads)) (r .made) start (start-good (taken-shown leads a)) .sound)
+      (calls-good (taken-shown leads a) (accepted (length (a .ws)) (problem-words a) (copy leads a) (taken-shown leads a) (r .loads)) (r .made) start (start-good (taken-shown leads a)) .sound)
 
   pub first-known : 0 < a .waits → getD (shown a .waiting) 0 0 < a .given
   first-known h = ∥∥₁-elim reached le-prop (λ r. first-given (taken-shown leads a) a (sound r) h)
@@ -69,22 +70,23 @@ module _ (leads : List ℕ) (found : Found) (a : Raw) (reached : ∥ Reached lea
 module _ (leads : List ℕ) (found : Found) (a b : Raw) (o : Op) (after : Becomes a (apply (taken-shown leads a) o) b) where
   still : Reached leads found a → Reached leads found b
   still r =
-    let t = taken-same leads a b (after .same) (r .placed) in
-    record {
-      loads = (λ j. load (after .same .size j) (same-words leads a b (after .same) j) (copy-same leads a b (after .same) (r .placed) j)) ∙ r .loads ∙ ap Ok (sym t);
-      outline = r .outline ∙ ap (λ ws. outline-of (read ws)) (sym (same-words leads a b (after .same)));
-      placed = placed-same leads a b (after .same) (r .placed);
-      carries = subst (λ L. Carries L (b .shape)) (sym t) (same-carries (taken-shown leads a) a b (after .same) (r .carries));
-      made = r .made ++ (plain o ∷ []);
-      state = after .state ∙ ap (apply (taken-shown leads a) o) (r .state) ∙ sym (calls-more (taken-shown leads a) (r .made) o start)
-        ∙ ap (λ L. calls L (r .made ++ (plain o ∷ [])) start) (sym t) }
+      let t = taken-same leads a b (after .same) (r .placed) in
+      record {
+        loads = (λ j. load (after .same .size j) (same-words leads a b (after .same) j) (copy-same leads a b (after .same) (r .placed) j)) ∙ r .loads ∙ ap Ok (sym t);
+        outline = r .outline ∙ ap (λ ws. outline-of (read ws)) (sym (same-words leads a b (after .same)));
+        placed = placed-same leads a b (after .same) (r .placed);
+        carries = subst (λ L. Carries L (b .shape)) (sym t) (same-carries (taken-shown leads a) a b (after .same) (r .carries));
+        made = r .made ++ (plain o ∷ []);
+        state = after .state ∙ ap (apply (taken-shown leads a) o) (r .state) ∙ sym (calls-more (taken-shown leads a) (r .made) o start)
+            ∙ ap (λ L. calls L (r .made ++ (plain o ∷ [])) start) (sym t);
+      }
 
   pub reached-still : ∥ Reached leads found a ∥₁ → ∥ Reached leads found b ∥₁
   reached-still r = ∥∥₁-map r still
 
   pub called : {X : Type 0} (told : Loaded → State → Result X Refusal) (r : Result X Refusal) (loaded : Bool) → loaded ≡ true → ∥ Reached leads found a ∥₁ →
-    r ≡ told (taken-shown leads a) (shown a) → _≡_ {A = Table × Result X Refusal} (seen loaded leads b, r) (calling o told (seen loaded leads a))
+      r ≡ told (taken-shown leads a) (shown a) → _≡_ {A = Table × Result X Refusal} (seen loaded leads b, r) (calling o told (seen loaded leads a))
   called told r true e reached is =
-    let t = taken-still leads a b (after .same) (∥∥₁-map reached (λ (x : Reached leads found a). x .placed)) in
-    λ j. (holding (after .same .size j) (t j) (after .state j), is j)
+      let t = taken-still leads a b (after .same) (∥∥₁-map reached (λ (x : Reached leads found a). x .placed)) in
+      λ j. (holding (after .same .size j) (t j) (after .state j), is j)
   called told r false e reached is = absurd (let z : _≡_ {A = ℕ} 0 1 = cc in omega arith)

@@ -31,8 +31,9 @@ first-in (x ∷ xs) h = inl refl
 
 pub first-given : (L : Loaded) (r : Raw) → Sound L (shown r) → 0 < r .waits → getD (shown r .waiting) 0 0 < r .given
 first-given L r ok h = elim (cases-lt (getD (shown r .waiting) 0 0) (r .given)) [
-    inl l ↦ l
-  | inr l ↦ absurd (ok .dead (getD (shown r .waiting) 0 0) (first-in (shown r .waiting) (omega (arith, h, waits-are r))) (ok .fresh (getD (shown r .waiting) 0 0) l)) ]
+  | inl l ↦ l
+  | inr l ↦ absurd (ok .dead (getD (shown r .waiting) 0 0) (first-in (shown r .waiting) (omega (arith, h, waits-are r))) (ok .fresh (getD (shown r .waiting) 0 0) l))
+]
 
 -- where none waits
 pub none-waiting : (r : Raw) → r .waits ≡ 0 → shown r .waiting ≡ []
@@ -42,8 +43,8 @@ none-waiting r h = rw h refl
 -- what is the same: the problem's words, and what load took
 pub same-problem : (a b : Raw) → Same a b → take (a .shape .lands) (b .ws) ≡ take (a .shape .lands) (a .ws)
 same-problem a b e = ext-getD 0 (take (a .shape .lands) (b .ws)) (take (a .shape .lands) (a .ws))
-  (length-take (a .shape .lands) (b .ws) ∙ ap (min (a .shape .lands)) (e .size) ∙ sym (length-take (a .shape .lands) (a .ws)))
-  (λ i h. let l : i < a .shape .lands = omega (arith, h, length-take (a .shape .lands) (b .ws)) in
+    (length-take (a .shape .lands) (b .ws) ∙ ap (min (a .shape .lands)) (e .size) ∙ sym (length-take (a .shape .lands) (a .ws)))
+    (λ i h. let l : i < a .shape .lands = omega (arith, h, length-take (a .shape .lands) (b .ws)) in
     getD-take (a .shape .lands) (b .ws) i 0 l ∙ e .copies i (inl l) ∙ sym (getD-take (a .shape .lands) (a .ws) i 0 l))
 
 pub same-carries : (L : Loaded) (a b : Raw) → Same a b → Carries L (a .shape) → Carries L (b .shape)
@@ -54,11 +55,12 @@ module _ (r : Raw) (fits : Fits r) (none : r .given ≡ 0) (quiet : r .waits ≡
   nothing-held : (t : Slot) → shown r .held t ≡ None
   nothing-held (cell e l) = let b : inside (r .shape) (r .given) (cell e l) ≡ false = grind (arith, tells) in sym (held-out r (cell e l) b)
   nothing-held (landing k q) = elim (cases-bool (inside (r .shape) (r .given) (landing k q))) [
-      inl b ↦ (
+    | inl b ↦ (
         let h = landing-low r fits k q (inside-true (r .shape) (r .given) (landing k q) b) in
         let p : spot (r .shape) (landing k q) ≡ r .shape .lands + (spot (r .shape) (landing k q) - r .shape .lands) = omega arith in
         held-in r (landing k q) b ∙ ap decode (ap (λ (i : ℕ). getD (r .ws) i 0) p ∙ empty (spot (r .shape) (landing k q) - r .shape .lands) (omega arith)))
-    | inr b ↦ sym (held-out r (landing k q) b) ]
+    | inr b ↦ sym (held-out r (landing k q) b)
+  ]
 
   pub shown-start : shown r ≡ start
   unfolding kindOf forwardOf

@@ -37,8 +37,8 @@ module _ (f : ℕ → ℕ) where
   -- one more is written behind the first n
   pub put-more : (at n b v : ℕ) (old mid : List ℕ) → at + n ≡ b → b < length mid → at ≤ length old → v ≡ f n → mid ≡ spliced at (upto f n) old → set mid b v ≡ spliced at (upto f (n + 1)) old
   put-more at n b v old mid e h k p q =
-    splice-then at b (upto f n) (f n ∷ []) old mid (set mid b v) k (ap (λ i. at + i) (upto-length f n) ∙ e) q (splice-one b v mid h ∙ ap (λ i. spliced b (i ∷ []) mid) p)
-    ∙ ap (λ xs. spliced at xs old) (sym (upto-next n))
+      splice-then at b (upto f n) (f n ∷ []) old mid (set mid b v) k (ap (λ i. at + i) (upto-length f n) ∙ e) q (splice-one b v mid h ∙ ap (λ i. spliced b (i ∷ []) mid) p)
+      ∙ ap (λ xs. spliced at xs old) (sym (upto-next n))
 
   -- one more is kept in an array
   pub none-kept : [] ≡ upto f 0

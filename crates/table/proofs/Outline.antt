@@ -27,37 +27,37 @@ use Rattle.table.proofs.LoadSource.{reads}
 
 target-read : (ws : List ℕ) (p : Problem) → read ws ≡ Ok p → links (p .target-kinds) ws (1 + length (p .source-links) + 1) ≡ Ok (p .target-links)
 target-read ws p e =
-  let at = 1 + length (p .source-links) in
-  let a = then-ok (schema 1 ws at) (λ k. then (links k ws (at + 1)) (λ ls. Ok (k, ls))) (p .target-kinds, p .target-links) (problem-told ws p e .targeted) in
-  let b = then-ok (links (a .0) ws (at + 1)) (λ ls. Ok (a .0, ls)) (p .target-kinds, p .target-links) (a .2) in
-  let h = ok-same (b .2) in
-  ap (λ x. links (x .0) ws (at + 1)) h ∙ b .1 ∙ ap (λ x. Ok (x .1)) (sym h)
+    let at = 1 + length (p .source-links) in
+    let a = then-ok (schema 1 ws at) (λ k. then (links k ws (at + 1)) (λ ls. Ok (k, ls))) (p .target-kinds, p .target-links) (problem-told ws p e .targeted) in
+    let b = then-ok (links (a .0) ws (at + 1)) (λ ls. Ok (a .0, ls)) (p .target-kinds, p .target-links) (a .2) in
+    let h = ok-same (b .2) in
+    ap (λ x. links (x .0) ws (at + 1)) h ∙ b .1 ∙ ap (λ x. Ok (x .1)) (sym h)
 
 module _ (ws : List ℕ) (f : Found) (t : told (Ok f) ≡ outline-of (read ws)) where
   -- the word of a target link
   module _ (l : ℕ) (h : l < length (problem-in ws .target-links)) where
     linked : Linked (problem-in ws .target-kinds) ws (f .target .place) (length (problem-in ws .target-links))
     linked =
-      let same = ok-same (sym (t ∙ ap outline-of (reads ws f t))) in
-      ap (λ n. sized (links (problem-in ws .target-kinds) ws n)) (ap (λ s. s .target .place) same) ∙ ap sized (target-read ws (problem-in ws) (reads ws f t))
+        let same = ok-same (sym (t ∙ ap outline-of (reads ws f t))) in
+        ap (λ n. sized (links (problem-in ws .target-kinds) ws n)) (ap (λ s. s .target .place) same) ∙ ap sized (target-read ws (problem-in ws) (reads ws f t))
 
     pub target-inside : f .target .place + l < length ws
     target-inside = link-inside (problem-in ws .target-kinds) ws (f .target .place) (length (problem-in ws .target-links)) l linked h
 
     pub target-ends : (getD ws (f .target .place + l) 0 % 268435456 / 256 ≡ getD (problem-in ws .target-links) l no-link .from)
-      × (getD ws (f .target .place + l) 0 % 268435456 % 256 ≡ getD (problem-in ws .target-links) l no-link .to)
+        × (getD ws (f .target .place + l) 0 % 268435456 % 256 ≡ getD (problem-in ws .target-links) l no-link .to)
     target-ends =
-      let same = ok-same (sym (t ∙ ap outline-of (reads ws f t))) in
-      let e = link-from (problem-in ws .target-kinds) ws (f .target .place) (length (problem-in ws .target-links)) l (getD ws (f .target .place + l) 0 % 268435456) linked h refl in
-      let g = ap (λ n. got (links (problem-in ws .target-kinds) ws n)) (ap (λ s. s .target .place) same) ∙ ap got (target-read ws (problem-in ws) (reads ws f t)) in
-      (e .0 ∙ ap (λ ls. getD ls l no-link .from) g, e .1 ∙ ap (λ ls. getD ls l no-link .to) g)
+        let same = ok-same (sym (t ∙ ap outline-of (reads ws f t))) in
+        let e = link-from (problem-in ws .target-kinds) ws (f .target .place) (length (problem-in ws .target-links)) l (getD ws (f .target .place + l) 0 % 268435456) linked h refl in
+        let g = ap (λ n. got (links (problem-in ws .target-kinds) ws n)) (ap (λ s. s .target .place) same) ∙ ap got (target-read ws (problem-in ws) (reads ws f t)) in
+        (e .0 ∙ ap (λ ls. getD ls l no-link .from) g, e .1 ∙ ap (λ ls. getD ls l no-link .to) g)
 
   -- the word of a kind map
   module _ (k : ℕ) (h : k < problem-in ws .source-kinds) where
     kinded : kind-maps (problem-in ws .source-kinds) (problem-in ws .target-kinds) ws (f .maps) ≡ Ok (problem-in ws .kind-map)
     kinded =
-      let same = ok-same (sym (t ∙ ap outline-of (reads ws f t))) in
-      ap (kind-maps (problem-in ws .source-kinds) (problem-in ws .target-kinds) ws) (ap (λ s. s .maps) same) ∙ problem-told ws (problem-in ws) (reads ws f t) .kinded
+        let same = ok-same (sym (t ∙ ap outline-of (reads ws f t))) in
+        ap (kind-maps (problem-in ws .source-kinds) (problem-in ws .target-kinds) ws) (ap (λ s. s .maps) same) ∙ problem-told ws (problem-in ws) (reads ws f t) .kinded
 
     mapped : Mapped (problem-in ws .source-kinds) (problem-in ws .target-kinds) ws (f .maps)
     mapped = kinded ∙ ap Ok (sym (ap got kinded))
@@ -85,11 +85,11 @@ module _ (leads : List ℕ) (found : Found) (r : Raw) (reached : ∥ Reached lea
 
     pub link-leaves : taken-shown leads r .from l ≡ getD (r .ws) (found .target .place + l) 0 % 268435456 / 256
     link-leaves = ∥∥₁-elim reached (ℕ-set _ _) (λ x. sym (ap (λ n. n % 268435456 / 256) (known _ (target-inside (problem-words r) found (x .outline) l (there x)))
-      ∙ target-ends (problem-words r) found (x .outline) l (there x) .0))
+        ∙ target-ends (problem-words r) found (x .outline) l (there x) .0))
 
     pub link-leads : taken-shown leads r .to l ≡ getD (r .ws) (found .target .place + l) 0 % 268435456 % 256
     link-leads = ∥∥₁-elim reached (ℕ-set _ _) (λ x. sym (ap (λ n. n % 268435456 % 256) (known _ (target-inside (problem-words r) found (x .outline) l (there x)))
-      ∙ target-ends (problem-words r) found (x .outline) l (there x) .1))
+        ∙ target-ends (problem-words r) found (x .outline) l (there x) .1))
 
   module _ (k : ℕ) (h : k < r .shape .kinds) where
     kind-there : (x : Reached leads found r) → k < problem-of r .source-kinds
@@ -100,4 +100,4 @@ module _ (leads : List ℕ) (found : Found) (r : Raw) (reached : ∥ Reached lea
 
     pub kind-leads : taken-shown leads r .kind-map k ≡ getD (r .ws) (found .maps + k) 0 % 268435456 % 256
     kind-leads = ∥∥₁-elim reached (ℕ-set _ _) (λ x. sym (ap (λ n. n % 268435456 % 256) (known _ (map-in (problem-words r) found (x .outline) k (kind-there x)))
-      ∙ map-kind (problem-words r) found (x .outline) k (kind-there x)))
+        ∙ map-kind (problem-words r) found (x .outline) k (kind-there x)))

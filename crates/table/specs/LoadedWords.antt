@@ -62,11 +62,16 @@ count-copied r k = cond (ltb k (r .shape .kinds)) (count (r .shape) k) 0
 
 unfoldable pub lead-copied : Problem → List ℕ → Raw → ℕ → ℕ → Option ℕ
 lead-copied p leads r i q =
-  cond (ltb i (length (p .source-links)) && ltb q (leaving p (count-copied r) i)) (Some (getD (r .ws) (getD leads i 0 + q) 0)) None
+    cond (ltb i (length (p .source-links)) && ltb q (leaving p (count-copied r) i)) (Some (getD (r .ws) (getD leads i 0 + q) 0)) None
 
 abbrev pub copy-by : Problem → List ℕ → Raw → Meaning
 copy-by p leads r = record {
-  kinds = p .source-kinds; links = length (p .source-links); ends = ends-copied p; count = count-copied r; follow = lead-copied p leads r }
+  kinds = p .source-kinds;
+  links = length (p .source-links);
+  ends = ends-copied p;
+  count = count-copied r;
+  follow = lead-copied p leads r;
+}
 
 abbrev pub copy : List ℕ → Raw → Meaning
 copy leads r = copy-by (problem-of r) leads r

@@ -19,8 +19,15 @@ use Rattle.table.specs.declared.loading.Loading.{Loading}
 -- the numbers of a load, and its words with no entry given
 abbrev pub shape-of : Loading → Shape
 shape-of l = record {
-  kinds = l .source .kinds; counts = l .source .counts; starts = l .source .starts; lands = l .lands; records = l .records;
-  base = l .base; links = l .links; capacity = l .capacity }
+  kinds = l .source .kinds;
+  counts = l .source .counts;
+  starts = l .source .starts;
+  lands = l .lands;
+  records = l .records;
+  base = l .base;
+  links = l .links;
+  capacity = l .capacity;
+}
 
 abbrev pub fresh : Loading → List ℕ → Raw
 fresh l ws = record { ws = ws; shape = shape-of l; given = 0; front = 0; waits = 0 }

@@ -81,12 +81,22 @@ fn plan<R: Register>(work: usize, problem: &[u32], source: &R) -> Result<Loading
 }
 
 // Takes a problem and a source into the work words. A refusal changes nothing.
-pub(crate) fn load<R: Register>(words: &mut [u32], problem: &[u32], source: &R) -> Result<Loading, LoadFault>
+pub(crate) fn load<R: Register>(
+    words: &mut [u32],
+    problem: &[u32],
+    source: &R,
+) -> Result<Loading, LoadFault>
     ensures { λ r. ⌜ Takes (now (words .entry)) (now (problem .entry)) (meaning (now (source .entry))) r (now (words .exit)) ⌝ }
 {
     let loading = plan(words.len(), problem, source)?;
     put_words(words, problem);
     clear(words, loading.lands, loading.records);
-    put_links(words, loading.lands + loading.records, problem, loading.found.source, source);
+    put_links(
+        words,
+        loading.lands + loading.records,
+        problem,
+        loading.found.source,
+        source,
+    );
     Ok(loading)
 }

@@ -71,7 +71,7 @@ impl Rows<'_> {
     }
 
     // Word `j` of entry `e`.
-    pub fn read(&self, e: usize, j: usize) -> u32
+    pub(crate) fn read(&self, e: usize, j: usize) -> u32
         requires { ⌜ Fits (raw (now self)) ⌝ }
         requires { ⌜ e < now self .capacity ⌝ }
         requires { ⌜ j < now self .links + 3 ⌝ }
@@ -81,7 +81,7 @@ impl Rows<'_> {
     }
 
     // Whether the slot `t` has a word.
-    pub fn has(&self, t: Slot) -> bool
+    pub(crate) fn has(&self, t: Slot) -> bool
         requires { ⌜ Fits (raw (now self)) ⌝ }
         ensures { λ r. ⌜ r ≡ has (now (self .entry)) t ⌝ }
     {
@@ -106,7 +106,7 @@ impl Rows<'_> {
     }
 
     // What the slot `t` holds.
-    pub fn held(&self, t: Slot) -> Option<u32>
+    pub(crate) fn held(&self, t: Slot) -> Option<u32>
         requires { ⌜ Fits (raw (now self)) ⌝ }
         ensures { λ r. ⌜ r ≡ view (now (self .entry)) .held (slot t) ⌝ }
     {
@@ -118,7 +118,7 @@ impl Rows<'_> {
     }
 
     // The cell of entry `e` at link `l`.
-    pub fn cell(&self, e: u32, l: u32) -> Option<u32>
+    pub(crate) fn cell(&self, e: u32, l: u32) -> Option<u32>
         requires { ⌜ Fits (raw (now self)) ⌝ }
         ensures { λ r. ⌜ r ≡ view (now (self .entry)) .held (cell e l) ⌝ }
     {
@@ -126,7 +126,7 @@ impl Rows<'_> {
     }
 
     // The landing of record `q` of the source kind `k`.
-    pub fn landing(&self, k: u32, q: u32) -> Option<u32>
+    pub(crate) fn landing(&self, k: u32, q: u32) -> Option<u32>
         requires { ⌜ Fits (raw (now self)) ⌝ }
         ensures { λ r. ⌜ r ≡ view (now (self .entry)) .held (landing k q) ⌝ }
     {
@@ -134,7 +134,7 @@ impl Rows<'_> {
     }
 
     // Whether `e` is a living entry.
-    pub fn lives(&self, e: u32) -> bool
+    pub(crate) fn lives(&self, e: u32) -> bool
         requires { ⌜ Fits (raw (now self)) ⌝ }
         ensures { λ r. ⌜ r ≡ lives (view (now (self .entry))) e ⌝ }
     {
@@ -142,7 +142,7 @@ impl Rows<'_> {
     }
 
     // The kind of `e`.
-    pub fn kind(&self, e: u32) -> u32
+    pub(crate) fn kind(&self, e: u32) -> u32
         requires { ⌜ Fits (raw (now self)) ⌝ }
         requires { ⌜ e < now self .given ⌝ }
         ensures { λ r. ⌜ r ≡ view (now (self .entry)) .kind e ⌝ }
@@ -151,7 +151,7 @@ impl Rows<'_> {
     }
 
     // The forward of `e`.
-    pub fn forward(&self, e: u32) -> u32
+    pub(crate) fn forward(&self, e: u32) -> u32
         requires { ⌜ Fits (raw (now self)) ⌝ }
         requires { ⌜ e < now self .given ⌝ }
         ensures { λ r. ⌜ r ≡ view (now (self .entry)) .forward e ⌝ }
@@ -160,7 +160,7 @@ impl Rows<'_> {
     }
 
     // The entry that `e` has come to: along forwards to one that is its own.
-    pub fn living_end(&self, e: u32) -> u32
+    pub(crate) fn living_end(&self, e: u32) -> u32
         requires { ⌜ Tidy (raw (now self)) ⌝ }
         requires { ⌜ e < now self .given ⌝ }
         ensures { λ r. ⌜ r ≡ end (view (now (self .entry))) e ⌝ }
@@ -175,7 +175,7 @@ impl Rows<'_> {
     }
 
     // Writes the entry `v` into the slot `t`.
-    pub fn fill(&mut self, t: Slot, v: u32)
+    pub(crate) fn fill(&mut self, t: Slot, v: u32)
         requires { ⌜ Tidy (raw (now self)) ⌝ }
         requires { ⌜ Has (now self) t ⌝ }
         requires { ⌜ v < now self .given ⌝ }
@@ -213,7 +213,7 @@ impl Rows<'_> {
     }
 
     // A new entry of the kind `k` fills the slot `t`.
-    pub fn born(&mut self, k: u32, t: Slot) -> u32
+    pub(crate) fn born(&mut self, k: u32, t: Slot) -> u32
         requires { ⌜ Tidy (raw (now self)) ⌝ }
         requires { ⌜ Has (now self) t ⌝ }
         requires { ⌜ now self .given < now self .capacity ⌝ }

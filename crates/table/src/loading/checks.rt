@@ -21,7 +21,7 @@ fn ends(problem: &[u32], schema: Schema, link: u32) -> (u32, u32)
 }
 
 // How many records a source link leaves.
-pub fn leaving<R: Register>(problem: &[u32], schema: Schema, source: &R, link: u32) -> u32
+pub(crate) fn leaving<R: Register>(problem: &[u32], schema: Schema, source: &R, link: u32) -> u32
     requires { ⌜ Sourced (now problem) schema ⌝ ∗ ⌜ link < schema .links ⌝ }
     ensures { λ r. ⌜ r ≡ leaving (problem-in (now (problem .entry))) (meaning (now (source .entry)) .count) link ⌝ }
 {
@@ -55,12 +55,14 @@ fn some_other_ends<R: Register>(problem: &[u32], schema: Schema, source: &R) -> 
 }
 
 // Whether the source has other kinds, links or ends than the schema.
-pub fn other_shape<R: Register>(problem: &[u32], schema: Schema, source: &R) -> bool
+pub(crate) fn other_shape<R: Register>(problem: &[u32], schema: Schema, source: &R) -> bool
     requires { ⌜ Sourced (now problem) schema ⌝ }
     ensures answer { λ r. ⌜ r ≡ other-shape (problem-in (now (problem .entry))) (meaning (now (source .entry))) ⌝ }
     ensures lawful { λ _. ⌜ Lawful (meaning (now (source .entry))) ⌝ }
 {
-    source.kinds() != schema.kinds || source.links() as usize != schema.links || some_other_ends(problem, schema, source)
+    source.kinds() != schema.kinds
+        || source.links() as usize != schema.links
+        || some_other_ends(problem, schema, source)
 }
 
 // Whether an answer is not one of the first `size` records.
@@ -96,7 +98,7 @@ fn link_strays<R: Register>(problem: &[u32], schema: Schema, source: &R, link: u
 }
 
 // The lowest link that strays.
-pub fn lowest_stray<R: Register>(problem: &[u32], schema: Schema, source: &R) -> Option<u32>
+pub(crate) fn lowest_stray<R: Register>(problem: &[u32], schema: Schema, source: &R) -> Option<u32>
     requires { ⌜ Sourced (now problem) schema ⌝ }
     ensures { λ r. ⌜ r ≡ lowest (link-strays (problem-in (now (problem .entry))) (meaning (now (source .entry)))) (length (problem-in (now (problem .entry)) .source-links)) ⌝ }
 {

@@ -11,7 +11,7 @@ use problems::Schema;
 use registers::register::Register;
 
 // Copies the problem's words to the front.
-pub fn put_words(out: &mut [u32], problem: &[u32])
+pub(crate) fn put_words(out: &mut [u32], problem: &[u32])
     requires { ⌜ length (now problem) ≤ length (now out) ⌝ }
     ensures { λ _. ⌜ now (out .exit) ≡ spliced 0 (now (problem .entry)) (now (out .entry)) ⌝ }
 {
@@ -21,7 +21,7 @@ pub fn put_words(out: &mut [u32], problem: &[u32])
 }
 
 // Empties n words.
-pub fn clear(out: &mut [u32], at: usize, n: usize)
+pub(crate) fn clear(out: &mut [u32], at: usize, n: usize)
     requires { ⌜ at + n ≤ length (now out) ⌝ }
     ensures { λ _. ⌜ now (out .exit) ≡ spliced at (upto (λ i. 0) n) (now (out .entry)) ⌝ }
 {
@@ -41,7 +41,13 @@ fn put_link<R: Register>(out: &mut [u32], at: usize, source: &R, link: u32, n: u
 }
 
 // Puts where the source's links lead.
-pub fn put_links<R: Register>(out: &mut [u32], at: usize, problem: &[u32], schema: Schema, source: &R)
+pub(crate) fn put_links<R: Register>(
+    out: &mut [u32],
+    at: usize,
+    problem: &[u32],
+    schema: Schema,
+    source: &R,
+)
     requires { ⌜ Sourced (now problem) schema ⌝ }
     requires { ⌜ at + sum (leaving (problem-in (now problem)) (meaning (now source) .count)) (schema .links) ≤ length (now out) ⌝ }
     ensures { λ _. ⌜ now (out .exit) ≡ spliced at (lead-words (problem-in (now (problem .entry))) (meaning (now (source .entry))) (schema .links)) (now (out .entry)) ⌝ }

@@ -18,7 +18,7 @@ pub struct Stacked {
 }
 
 // Counts the source's kinds, and stacks their landings.
-pub fn stack<R: Register>(source: &R, kinds: u32, lands: usize) -> Stacked
+pub(crate) fn stack<R: Register>(source: &R, kinds: u32, lands: usize) -> Stacked
     requires { ⌜ kinds ≤ 32 ⌝ ∗ ⌜ lands ≤ 268435456 ⌝ }
     ensures same { λ r. ⌜ r .source .kinds ≡ kinds ⌝ }
     ensures counts { λ r. ⌜ take (r .source .kinds) (r .source .counts) ≡ upto (meaning (now (source .entry)) .count) (r .source .kinds) ⌝ }
@@ -51,7 +51,12 @@ pub struct LeadPlaces {
     pub next: usize,
 }
 
-pub fn place_leads<R: Register>(problem: &[u32], schema: Schema, source: &R, start: usize) -> LeadPlaces
+pub(crate) fn place_leads<R: Register>(
+    problem: &[u32],
+    schema: Schema,
+    source: &R,
+    start: usize,
+) -> LeadPlaces
     requires { ⌜ Sourced (now problem) schema ⌝ ∗ ⌜ start ≤ 268439551 ⌝ }
     ensures places { λ r. ⌜ take (schema .links) (r .places) ≡ upto (λ i. start + sum (leaving (problem-in (now (problem .entry))) (meaning (now (source .entry)) .count)) i) (schema .links) ⌝ }
     ensures behind { λ r. ⌜ r .next ≡ start + sum (leaving (problem-in (now (problem .entry))) (meaning (now (source .entry)) .count)) (schema .links) ⌝ }

@@ -18,7 +18,7 @@ use words::faults::Refusal;
 
 impl Rows<'_> {
     // How many entries live.
-    pub fn living(&self) -> u32
+    pub(crate) fn living(&self) -> u32
         requires { ⌜ Fits (raw (now self)) ⌝ }
         ensures { λ r. ⌜ r ≡ rank (view (now (self .entry)) .forward) (now (self .entry) .given) ⌝ }
     {
@@ -56,7 +56,7 @@ impl Rows<'_> {
     }
 
     // Why `land` is refused, if it is.
-    pub fn land_fault(&self, k: u32, q: u32) -> Option<Refusal>
+    pub(crate) fn land_fault(&self, k: u32, q: u32) -> Option<Refusal>
         requires { ⌜ Fits (raw (now self)) ⌝ }
         ensures is { λ r. ⌜ ((L : Loaded) → Carries L (raw (now (self .entry)) .shape) → r ≡ land-fault L (view (now (self .entry))) k q) ⌝ }
         ensures room { λ r. ⌜ (r ≡ None → Has (now (self .entry)) (Slot.Landing k q) × (now (self .entry) .given < now (self .entry) .capacity)) ⌝ }
@@ -66,7 +66,7 @@ impl Rows<'_> {
     }
 
     // A new entry of the kind `kind` at the landing of record `q` of the source kind `k`.
-    pub fn land(&mut self, k: u32, q: u32, kind: u32) -> Result<u32, Refusal>
+    pub(crate) fn land(&mut self, k: u32, q: u32, kind: u32) -> Result<u32, Refusal>
         requires { ⌜ Tidy (raw (now self)) ⌝ }
         ensures is { λ r. ⌜ ((L : Loaded) → Carries L (raw (now (self .entry)) .shape) → r ≡ answered (land-fault L (view (now (self .entry))) k q) (now (self .entry) .given)) ⌝ }
         ensures after { λ _. ⌜ ((L : Loaded) → Carries L (raw (now (self .entry)) .shape) → (k < now (self .entry) .source .kinds → L .kind-map k ≡ kind) → Becomes (raw (now (self .entry))) (apply L (land k q)) (raw (now (self .exit)))) ⌝ }
@@ -78,7 +78,7 @@ impl Rows<'_> {
     }
 
     // Whether `e` lives and has the kind `from`, which the link `l` leaves.
-    pub fn leaves(&self, e: u32, l: u32, from: u32) -> bool
+    pub(crate) fn leaves(&self, e: u32, l: u32, from: u32) -> bool
         requires { ⌜ Fits (raw (now self)) ⌝ }
         ensures { λ r. ⌜ r ≡ (lives (view (now (self .entry))) e && (ltb l (now (self .entry) .links) && eqb (view (now (self .entry)) .kind e) from)) ⌝ }
     {
@@ -86,7 +86,7 @@ impl Rows<'_> {
     }
 
     // Why `define` is refused, if it is.
-    pub fn define_fault(&self, e: u32, l: u32, from: u32) -> Option<Refusal>
+    pub(crate) fn define_fault(&self, e: u32, l: u32, from: u32) -> Option<Refusal>
         requires { ⌜ Fits (raw (now self)) ⌝ }
         ensures is { λ r. ⌜ ((L : Loaded) → Carries L (raw (now (self .entry)) .shape) → (l < now (self .entry) .links → L .from l ≡ from) → r ≡ define-fault L (view (now (self .entry))) e l) ⌝ }
         ensures room { λ r. ⌜ (r ≡ None → Has (now (self .entry)) (Slot.Cell e l) × (now (self .entry) .given < now (self .entry) .capacity)) ⌝ }
@@ -96,7 +96,7 @@ impl Rows<'_> {
     }
 
     // A new entry of the kind `to` at the cell of `e` and the link `l`, which leads from the kind `from`.
-    pub fn define(&mut self, e: u32, l: u32, from: u32, to: u32) -> Result<u32, Refusal>
+    pub(crate) fn define(&mut self, e: u32, l: u32, from: u32, to: u32) -> Result<u32, Refusal>
         requires { ⌜ Tidy (raw (now self)) ⌝ }
         ensures is { λ r. ⌜ ((L : Loaded) → Carries L (raw (now (self .entry)) .shape) → (l < now (self .entry) .links → L .from l ≡ from) → r ≡ answered (define-fault L (view (now (self .entry))) e l) (now (self .entry) .given)) ⌝ }
         ensures after { λ _. ⌜ ((L : Loaded) → Carries L (raw (now (self .entry)) .shape) → (l < now (self .entry) .links → L .from l ≡ from) → (l < now (self .entry) .links → L .to l ≡ to) → Becomes (raw (now (self .entry))) (apply L (define e l)) (raw (now (self .exit)))) ⌝ }

@@ -37,7 +37,7 @@ fn sides(left: Side, right: Side) -> Effect
 
 impl Rows<'_> {
     // What the check of a rule with these paths finds at `e`.
-    pub fn rule_effect(&self, left: &[u32], right: &[u32], e: u32) -> Effect
+    pub(crate) fn rule_effect(&self, left: &[u32], right: &[u32], e: u32) -> Effect
         requires { ⌜ Fits (raw (now self)) ⌝ }
         ensures { λ r. ⌜ shown-effect r ≡ sides (walk (view (now (self .entry)) .held) e (links (now (left .entry)))) (walk (view (now (self .entry)) .held) e (links (now (right .entry)))) ⌝ }
     {
@@ -46,7 +46,7 @@ impl Rows<'_> {
 
     // What the check of a source link finds at the record `q` of the kind `from`, which it leads to the record `led` of the kind `to`;
     // the path is the link's.
-    pub fn link_effect(&self, from: u32, q: u32, to: u32, led: u32, path: &[u32]) -> Effect
+    pub(crate) fn link_effect(&self, from: u32, q: u32, to: u32, led: u32, path: &[u32]) -> Effect
         requires { ⌜ Fits (raw (now self)) ⌝ }
         ensures { λ r. ⌜ shown-effect r ≡ sides (walk-in (view (now (self .entry)) .held) (landing to led) []) (walk-in (view (now (self .entry)) .held) (landing from q) (links (now (path .entry)))) ⌝ }
     {
@@ -57,7 +57,7 @@ impl Rows<'_> {
     }
 
     // Does what a check found, and tells its outcome.
-    pub fn act(&mut self, what: Effect) -> Outcome
+    pub(crate) fn act(&mut self, what: Effect) -> Outcome
         requires { ⌜ Tidy (raw (now self)) ⌝ }
         requires { ⌜ Named (raw (now self)) (shown-effect what) ⌝ }
         ensures told { λ r. ⌜ r ≡ outcome (shown-effect what) ⌝ }

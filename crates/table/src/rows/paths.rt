@@ -52,7 +52,7 @@ fn parts_in<'b>(token: Option<Token<'b>>) -> Option<(u32, &'b [u32], &'b [u32])>
 
 impl Rows<'_> {
     // The rule `i`, if there is one: its first kind and its two paths.
-    pub fn rule<'b>(&'b self, found: &Found, i: usize) -> Option<(u32, &'b [u32], &'b [u32])>
+    pub(crate) fn rule<'b>(&'b self, found: &Found, i: usize) -> Option<(u32, &'b [u32], &'b [u32])>
         requires { ⌜ Fits (raw (now self)) ⌝ }
         ensures { λ r. ⌜ ((L : Loaded) → Stands L (raw (now (self .entry))) (now (found .entry)) → linked (shown-parts r) ≡ rule-of L i) ⌝ }
     {
@@ -60,7 +60,7 @@ impl Rows<'_> {
     }
 
     // The path of the source link `i`, which is empty where there is no such link.
-    pub fn link_path<'b>(&'b self, found: &Found, i: usize) -> &'b [u32]
+    pub(crate) fn link_path<'b>(&'b self, found: &Found, i: usize) -> &'b [u32]
         requires { ⌜ Fits (raw (now self)) ⌝ }
         ensures { λ r. ⌜ ((L : Loaded) → Stands L (raw (now (self .entry))) (now (found .entry)) → links (now r) ≡ L .link-map i) ⌝ }
     {
@@ -99,7 +99,7 @@ impl Rows<'_> {
     }
 
     // Checks the rule `i` at `e`.
-    pub fn check_rule(&mut self, found: &Found, e: u32, i: usize) -> Result<Outcome, Refusal>
+    pub(crate) fn check_rule(&mut self, found: &Found, e: u32, i: usize) -> Result<Outcome, Refusal>
         requires { ⌜ Tidy (raw (now self)) ⌝ }
         requires { ⌜ Standing (raw (now self)) (now found) ⌝ }
         ensures is { λ r. ⌜ ((L : Loaded) → Stands L (raw (now (self .entry))) (now (found .entry)) → r ≡ answered (rule-fault L (view (now (self .entry))) e i) (outcome (rule-effect L (view (now (self .entry))) e i))) ⌝ }
@@ -136,7 +136,12 @@ impl Rows<'_> {
     }
 
     // Checks the source link `i` where it leads as `lead` says.
-    pub fn check_link(&mut self, found: &Found, i: usize, lead: Lead) -> Result<Outcome, Refusal>
+    pub(crate) fn check_link(
+        &mut self,
+        found: &Found,
+        i: usize,
+        lead: Lead,
+    ) -> Result<Outcome, Refusal>
         requires { ⌜ Tidy (raw (now self)) ⌝ }
         requires { ⌜ Leading (raw (now self)) (now found) i lead ⌝ }
         ensures is { λ r. ⌜ ((L : Loaded) → Leads L (raw (now (self .entry))) (now (found .entry)) i lead → r ≡ answered (link-fault L (view (now (self .entry))) i (lead .q)) (outcome (link-effect L (view (now (self .entry))) i (lead .q)))) ⌝ }

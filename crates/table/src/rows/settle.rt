@@ -26,7 +26,7 @@ fn swap(words: &mut [u32], at: usize, n: usize, old: u32, new: u32)
 
 impl Rows<'_> {
     // Merges the living ends of `a` and `b`.
-    pub fn merge(&mut self, a: u32, b: u32)
+    pub(crate) fn merge(&mut self, a: u32, b: u32)
         requires { ⌜ Tidy (raw (now self)) ⌝ }
         requires { ⌜ a < now self .given ⌝ }
         requires { ⌜ b < now self .given ⌝ }
@@ -118,7 +118,7 @@ impl Rows<'_> {
     }
 
     // Settles the first that waits.
-    pub fn settle(&mut self)
+    pub(crate) fn settle(&mut self)
         requires { ⌜ Tidy (raw (now self)) ⌝ }
         requires { ⌜ 0 < now self .waits ⌝ }
         requires { ⌜ getD (view (now self) .waiting) 0 0 < now self .given ⌝ }

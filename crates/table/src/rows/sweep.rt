@@ -153,7 +153,7 @@ impl Rows<'_> {
     }
 
     // Numbers the living anew in their order, and drops the dead; tells how many.
-    pub fn sweep(&mut self) -> usize
+    pub(crate) fn sweep(&mut self) -> usize
         requires tidy { ⌜ Tidy (raw (now self)) ⌝ }
         requires quiet { ⌜ now self .waits ≡ 0 ⌝ }
         requires live { ⌜ Held-live (view (now self)) ⌝ }

@@ -26,7 +26,7 @@ fn link(step: u32) -> u32
 
 impl Rows<'_> {
     // Where the path leads from `e`, if each of its cells is filled.
-    pub fn walk(&self, path: &[u32], e: u32) -> Option<u32>
+    pub(crate) fn walk(&self, path: &[u32], e: u32) -> Option<u32>
         requires { ⌜ Fits (raw (now self)) ⌝ }
         ensures { λ r. ⌜ r ≡ ended-at (walk (view (now (self .entry)) .held) e (links (now (path .entry)))) ⌝ }
     {
@@ -51,7 +51,7 @@ impl Rows<'_> {
     }
 
     // The side that walks the path from `e`: all but its last step, and then that one.
-    pub fn side(&self, path: &[u32], e: u32) -> Side
+    pub(crate) fn side(&self, path: &[u32], e: u32) -> Side
         requires { ⌜ Fits (raw (now self)) ⌝ }
         ensures { λ r. ⌜ shown-side r ≡ side-of (walk (view (now (self .entry)) .held) e (links (now (path .entry)))) ⌝ }
     {
@@ -65,7 +65,7 @@ impl Rows<'_> {
     }
 
     // The side that goes through the slot `t` first, and then walks the path.
-    pub fn side_in(&self, t: Slot, path: &[u32]) -> Side
+    pub(crate) fn side_in(&self, t: Slot, path: &[u32]) -> Side
         requires { ⌜ Fits (raw (now self)) ⌝ }
         ensures { λ r. ⌜ shown-side r ≡ side-of (walk-in (view (now (self .entry)) .held) (slot t) (links (now (path .entry)))) ⌝ }
     {

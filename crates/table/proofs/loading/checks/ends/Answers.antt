@@ -10,4 +10,5 @@ add-schema c = let h = c .pre .0 .inside (c .args .link) (c .pre .1) in search n
 pub returns : need.returns
 returns c = record {
   from = ap (λ v. v / 256) (c .fields-at-fields .ensures) ∙ c .pre .0 .from (c .args .link) (c .pre .1);
-  to = ap (λ v. v % 256) (c .fields-at-fields .ensures) ∙ c .pre .0 .to (c .args .link) (c .pre .1) }
+  to = ap (λ v. v % 256) (c .fields-at-fields .ensures) ∙ c .pre .0 .to (c .args .link) (c .pre .1);
+}

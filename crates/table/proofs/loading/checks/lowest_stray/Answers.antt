@@ -18,5 +18,5 @@ returns-then-link-strays g c = lowest-found _ (c .loop-link .link) _ (omega arit
 
 pub returns : need.returns
 returns g c =
-  let e : c .loop-link .link ≡ length (problem-in (c .args .problem .now) .source-links) = omega arith in
-  sym (ap (lowest _) (sym e) ∙ c .loop-link .inv)
+    let e : c .loop-link .link ≡ length (problem-in (c .args .problem .now) .source-links) = omega arith in
+    sym (ap (lowest _) (sym e) ∙ c .loop-link .inv)

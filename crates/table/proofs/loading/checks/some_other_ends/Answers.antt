@@ -18,5 +18,5 @@ returns-then-other-ends g c = some-found _ (c .loop-link .link) _ (omega arith) 
 
 pub returns : need.returns
 returns g c =
-  let e : c .loop-link .link ≡ length (problem-in (c .args .problem .now) .source-links) = omega arith in
-  sym (ap (some-below _) (sym e) ∙ c .loop-link .inv)
+    let e : c .loop-link .link ≡ length (problem-in (c .args .problem .now) .source-links) = omega arith in
+    sym (ap (some-below _) (sym e) ∙ c .loop-link .inv)

@@ -15,6 +15,6 @@ loop-i-again c = put-more _ 0 (c .loop-i .i) _ _ _ _ (omega arith) (omega arith)
 
 pub returns : need.returns
 returns c =
-  let ws = c .args .problem .now in
-  let e : c .loop-i .i ≡ length ws = omega arith in
-  c .loop-i .inv ∙ ap (λ n. spliced 0 (upto (λ k. getD ws k 0) n) (c .args .out .now)) e ∙ ap (λ xs. spliced 0 xs (c .args .out .now)) (upto-same _ ws 0 (λ i h. refl))
+    let ws = c .args .problem .now in
+    let e : c .loop-i .i ≡ length ws = omega arith in
+    c .loop-i .inv ∙ ap (λ n. spliced 0 (upto (λ k. getD ws k 0) n) (c .args .out .now)) e ∙ ap (λ xs. spliced 0 xs (c .args .out .now)) (upto-same _ ws 0 (λ i h. refl))

@@ -8,7 +8,7 @@ use Rattle.table.proofs.loading.places.place_leads.Given as given
 
 abbrev pub Inv-loop-link : given.InvT-loop-link
 Inv-loop-link g l =
-  (length (l .places) ≡ 64)
-  × (take (l .link) (l .places) ≡ upto (λ i. l .start + sum (leaving (problem-in (l .problem)) (g .R·Register .meaning (l .source) .count)) i) (l .link))
-  × (l .next ≡ l .start + sum (leaving (problem-in (l .problem)) (g .R·Register .meaning (l .source) .count)) (l .link))
-  × (l .next ≤ l .start + l .link * 4294967296)
+    (length (l .places) ≡ 64)
+    × (take (l .link) (l .places) ≡ upto (λ i. l .start + sum (leaving (problem-in (l .problem)) (g .R·Register .meaning (l .source) .count)) i) (l .link))
+    × (l .next ≡ l .start + sum (leaving (problem-in (l .problem)) (g .R·Register .meaning (l .source) .count)) (l .link))
+    × (l .next ≤ l .start + l .link * 4294967296)

@@ -15,4 +15,5 @@ index-self-self c = let t = c .args .self .now in link-in (t .leads) (t .found) 
 pub returns-then-l-self : need.returns-then-l-self
 returns-then-l-self c = let t = c .args .self .now in record {
   from = λ h. link-leaves (t .leads) (t .found) (raw (t .rows)) (t .reached (c .pre)) (c .args .l) h;
-  to = λ h. link-leads (t .leads) (t .found) (raw (t .rows)) (t .reached (c .pre)) (c .args .l) h }
+  to = λ h. link-leads (t .leads) (t .found) (raw (t .rows)) (t .reached (c .pre)) (c .args .l) h;
+}

@@ -8,12 +8,12 @@ use Rattle.table.proofs.table.Table.landing.Needs as need
 
 pub returns-then-has : need.returns-then-has
 returns-then-has c =
-  let t = c .args .self .now in
-  ap Ok (c .landing .ensures) ∙ landing-asked (t .leads) (raw (t .rows)) (carries (t .leads) (t .found) (raw (t .rows)) (t .reached (c .if-not-self .left)))
+    let t = c .args .self .now in
+    ap Ok (c .landing .ensures) ∙ landing-asked (t .leads) (raw (t .rows)) (carries (t .leads) (t .found) (raw (t .rows)) (t .reached (c .if-not-self .left)))
     (t .loaded) (c .if-not-self .left) (c .args .k) (c .args .q) true (c .if-has .ensures tt)
 
 pub returns-else-has : need.returns-else-has
 returns-else-has c =
-  let t = c .args .self .now in
-  landing-asked (t .leads) (raw (t .rows)) (carries (t .leads) (t .found) (raw (t .rows)) (t .reached (c .if-not-self .left)))
+    let t = c .args .self .now in
+    landing-asked (t .leads) (raw (t .rows)) (carries (t .leads) (t .found) (raw (t .rows)) (t .reached (c .if-not-self .left)))
     (t .loaded) (c .if-not-self .left) (c .args .k) (c .args .q) false (c .if-has .ensures tt)
