@@ -1,4 +1,5 @@
 // Registers behind one interface.
+#![tactic(auto)]
 pub mod blank;
 pub mod held;
 pub mod register;

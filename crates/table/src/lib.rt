@@ -1,2 +1,3 @@
 // A coset table over lent work words.
+#![tactic(auto)]
 pub mod table;

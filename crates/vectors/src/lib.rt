@@ -1,4 +1,5 @@
 // Examples of the file formats and of registers, from tables. All of it is for tests.
+#![tactic(auto)]
 #[cfg(test)]
 mod answer_tables;
 #[cfg(test)]

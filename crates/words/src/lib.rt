@@ -1,4 +1,5 @@
 // Words on file: tags, faults, and the readers of words.
+#![tactic(auto)]
 pub mod faults;
 pub mod reading;
 pub mod tags;

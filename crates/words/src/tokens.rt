@@ -1,6 +1,6 @@
 // A word as a token: its fields by name, and its path as a part of the words.
 ghost use Rattle.std.specs.Prelude.{◌≡◌, ◌<◌, length};
-ghost use Rattle.words.specs.Tokens.{tag_of, told as told_of, token_of, token as token_of};
+ghost use Rattle.words.specs.Tokens.{tag_of, told as told_of, token_of, token as read_token};
 
 use crate::faults::WordFault;
 use crate::reading::word;
@@ -158,7 +158,7 @@ fn fields_token<'a>(words: &'a [u32], at: usize, tag: Tag, v: u32) -> Result<Tok
 
 // The token whose word stands at a place.
 pub fn token_at<'a>(words: &'a [u32], at: usize) -> Result<Token<'a>, WordFault>
-    ensures { told_of result ≡ token_of words.now at }
+    ensures { told_of result ≡ read_token words.now at }
 {
     if at >= words.len() {
         return Err(WordFault::Missing(at));
