@@ -49,6 +49,24 @@ def declarations(text):
             if not re.match(r'goal\.', sign.strip()):
                 found.append((m.group(2), sign.strip().endswith('Type 0') or sign.strip() == 'Type'))
         i = j
+    return found + inner_declarations(lines)
+
+
+def inner_declarations(lines):
+    """The names that are declared in a module inside a file: each with whether it is a type."""
+    if not any(re.match(r'\s*module _', line) for line in lines):
+        return []
+    found = []
+    for i, line in enumerate(lines):
+        m = re.match(r"^(\s+)(?:(?:pub|abbrev|unfoldable)\s+)*([A-Za-z_][^\s:(){}\[\].,;=]*)\s:\s(.*)$", line)
+        if not m or m.group(2) == 'let':
+            continue
+        j = i + 1
+        while j < len(lines) and lines[j].startswith(m.group(1) + ' '):
+            j += 1
+        sign = ' '.join([m.group(3)] + lines[i + 1:j]).strip()
+        if not sign.startswith('goal.'):
+            found.append((m.group(2), sign.endswith('Type 0') or sign == 'Type'))
     return found
 
 

@@ -8,38 +8,38 @@ use Rattle.machine.specs.Loaded.{Loaded}
 use Rattle.machine.specs.State.{Slot, landing}
 use Rattle.rows.specs.Layout.{Raw, Fits}
 use Rattle.rows.specs.Standing.{Stands}
-use Rattle.rows.proofs.Outline.{source-kinds-are}
+use Rattle.rows.proofs.Outline.{source_kinds_are}
 use Rattle.finishing.specs.Records.{appended, lead_word, Numbered, Led, Landed}
 use Rattle.finishing.specs.Written.{Writing, Always, link_part, file_words}
-use Rattle.finishing.proofs.Numbers.{led, landed-numbered}
-use Rattle.finishing.proofs.FileParts.{counted, link_length, leads-length, file-length, file-small}
-use Rattle.finishing.proofs.Problem.{kinds-are, few_kinds}
+use Rattle.finishing.proofs.Numbers.{led, landed_numbered}
+use Rattle.finishing.proofs.FileParts.{counted, link_length, leads_length, file_length, file_small}
+use Rattle.finishing.proofs.Problem.{kinds_are, few_kinds}
 
 module _ {b : Raw} {f : Found} {met : ℕ} {counts : List ℕ} (x : Writing b f met counts) where
-  pub known-le : (m n : ℕ) → Always b f met counts (λ L s. m ≤ n) → m ≤ n
-  known-le m n h = ∥∥₁_elim x le_prop (λ y. h y.0 y.1 y.2)
+  pub known_le : (m n : ℕ) → Always b f met counts (λ L s. m ≤ n) → m ≤ n
+  known_le m n h = ∥∥₁_elim x le_prop (λ y. h y.0 y.1 y.2)
 
   known_is : (m n : ℕ) → Always b f met counts (λ L s. m ≡ n) → m ≡ n
   known_is m n h = ∥∥₁_elim x (ℕ_set m n) (λ y. h y.0 y.1 y.2)
 
   pub fits : Fits b
   fits = record {
-    below = known-le _ _ (λ L s w. w.listed.fits.below);
-    room = known-le _ _ (λ L s w. w.listed.fits.room);
-    few = known-le _ _ (λ L s w. w.listed.fits.few);
-    small = known-le _ _ (λ L s w. w.listed.fits.small);
-    narrow = known-le _ _ (λ L s w. w.listed.fits.narrow);
-    lot = known-le _ _ (λ L s w. w.listed.fits.lot);
-    sorts = known-le _ _ (λ L s w. w.listed.fits.sorts);
+    below = known_le _ _ (λ L s w. w.listed.fits.below);
+    room = known_le _ _ (λ L s w. w.listed.fits.room);
+    few = known_le _ _ (λ L s w. w.listed.fits.few);
+    small = known_le _ _ (λ L s w. w.listed.fits.small);
+    narrow = known_le _ _ (λ L s w. w.listed.fits.narrow);
+    lot = known_le _ _ (λ L s w. w.listed.fits.lot);
+    sorts = known_le _ _ (λ L s w. w.listed.fits.sorts);
     stacked = λ k h. known_is _ _ (λ L s w. w.listed.fits.stacked k h);
     total = known_is _ _ (λ L s w. w.listed.fits.total);
   }
 
   numbered : (t : Slot) → Always b f met counts (λ L s. Numbered b t) → Numbered b t
   numbered t h v e = (
-    known-le _ _ (λ L s w. (h L s w v e).0),
-    known-le _ _ (λ L s w. (h L s w v e).1),
-    known-le _ _ (λ L s w. (h L s w v e).2),
+    known_le _ _ (λ L s w. (h L s w v e).0),
+    known_le _ _ (λ L s w. (h L s w v e).1),
+    known_le _ _ (λ L s w. (h L s w v e).2),
   )
 
   -- a link between kinds that the code has found
@@ -47,47 +47,47 @@ module _ {b : Raw} {f : Found} {met : ℕ} {counts : List ℕ} (x : Writing b f 
     pub from_is : Always b f met counts (λ L s. L.from l ≡ e.0)
     from_is L s w = (ends L w.stands (omega (arith, w.carries.links))).0
 
-    found-led : Always b f met counts (λ L s. Led b e.0 l met)
-    found-led L s w = subst (λ k. Led b k l met) (from_is L s w) (led L s b met counts w.listed l (omega (arith, w.carries.links)))
+    found_led : Always b f met counts (λ L s. Led b e.0 l met)
+    found_led L s w = subst (λ k. Led b k l met) (from_is L s w) (led L s b met counts w.listed l (omega (arith, w.carries.links)))
 
-    pub link-led : Led b e.0 l met
-    link-led = record {
+    pub link_led : Led b e.0 l met
+    link_led = record {
       fits = fits;
-      room = known-le _ _ (λ L s w. (found-led L s w).room);
-      known = λ i k. known-le _ _ (λ L s w. (found-led L s w).known i k);
-      numbered = λ i k q. numbered _ (λ L s w. (found-led L s w).numbered i k q);
+      room = known_le _ _ (λ L s w. (found_led L s w).room);
+      known = λ i k. known_le _ _ (λ L s w. (found_led L s w).known i k);
+      numbered = λ i k q. numbered _ (λ L s w. (found_led L s w).numbered i k q);
     }
 
     pub size_is : Always b f met counts (λ L s. length (link_part L s l) ≡ 1 + get_or counts e.0 0)
     size_is L s w = link_length L s b f met counts w l h ∙ ap (λ k. 1 + get_or counts k 0) (from_is L s w)
 
     pub link_room : (at n : ℕ) → Always b f met counts (λ L s. at + length (link_part L s l) ≤ n) → at + 1 + get_or counts e.0 0 ≤ n
-    link_room at n room = known-le _ _ (λ L s w. omega (arith, room L s w, size_is L s w))
+    link_room at n room = known_le _ _ (λ L s w. omega (arith, room L s w, size_is L s w))
 
-    pub leads-fill : length (appended (lead_word b e.0 l) met) ≡ get_or counts e.0 0
-    leads-fill = known_is _ _ (λ L s w. subst (λ k. length (appended (lead_word b k l) met) ≡ get_or counts k 0) (from_is L s w) (leads-length L s b f met counts w l h))
+    pub leads_fill : length (appended (lead_word b e.0 l) met) ≡ get_or counts e.0 0
+    leads_fill = known_is _ _ (λ L s w. subst (λ k. length (appended (lead_word b k l) met) ≡ get_or counts k 0) (from_is L s w) (leads_length L s b f met counts w l h))
 
   pub landed : Landed b f
   landed = record {
     fits = fits;
-    kinds = known_is _ _ (λ L s w. source-kinds-are L b f w.stands ∙ w.carries.kinds);
+    kinds = known_is _ _ (λ L s w. source_kinds_are L b f w.stands ∙ w.carries.kinds);
     numbered = λ k q h l. numbered (landing k q) (λ L s w.
-        landed-numbered L s b met counts w.listed k (omega (arith, w.carries.kinds)) q (omega (arith, w.carries.counts k h)));
+        landed_numbered L s b met counts w.listed k (omega (arith, w.carries.kinds)) q (omega (arith, w.carries.counts k h)));
   }
 
   -- the whole file
-  pub counts-known : (k : ℕ) → k < f.target.kinds → get_or counts k 0 < 65536
-  counts-known k h = known-le _ _ (λ L s w. counted L s b f met counts w k (omega (arith, h, kinds-are L b f w.stands)))
+  pub counts_known : (k : ℕ) → k < f.target.kinds → get_or counts k 0 < 65536
+  counts_known k h = known_le _ _ (λ L s w. counted L s b f met counts w k (omega (arith, h, kinds_are L b f w.stands)))
 
-  pub kinds-known : f.target.kinds ≤ 32
-  kinds-known = known-le _ _ (λ L s w. omega (arith, few_kinds L b f w.stands, kinds-are L b f w.stands))
+  pub kinds_known : f.target.kinds ≤ 32
+  kinds_known = known_le _ _ (λ L s w. omega (arith, few_kinds L b f w.stands, kinds_are L b f w.stands))
 
-  pub head-room : (n : ℕ) → Always b f met counts (λ L s. length (file_words L s) ≤ n) → f.target.kinds + 2 ≤ n
-  head-room n room = known-le _ _ (λ L s w. omega (arith, room L s w, file-length L s b f met counts w))
+  pub head_room : (n : ℕ) → Always b f met counts (λ L s. length (file_words L s) ≤ n) → f.target.kinds + 2 ≤ n
+  head_room n room = known_le _ _ (λ L s w. omega (arith, room L s w, file_length L s b f met counts w))
 
-  pub end-room : (next n : ℕ) → Always b f met counts (λ L s. next ≡ 1 + f.target.kinds + length (appended (link_part L s) b.shape.links)) →
+  pub end_room : (next n : ℕ) → Always b f met counts (λ L s. next ≡ 1 + f.target.kinds + length (appended (link_part L s) b.shape.links)) →
       Always b f met counts (λ L s. length (file_words L s) ≤ n) → (next + b.shape.kinds + b.shape.records < n) × (next + b.shape.kinds + b.shape.records < 268435456)
-  end-room next n is room = (
-    known-le _ _ (λ L s w. omega (arith, is L s w, room L s w, file-length L s b f met counts w)),
-    known-le _ _ (λ L s w. omega (arith, is L s w, file-small L s b f met counts w)),
+  end_room next n is room = (
+    known_le _ _ (λ L s w. omega (arith, is L s w, room L s w, file_length L s b f met counts w)),
+    known_le _ _ (λ L s w. omega (arith, is L s w, file_small L s b f met counts w)),
   )

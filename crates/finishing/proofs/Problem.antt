@@ -11,7 +11,7 @@ use Rattle.machine.specs.Loaded.{Loaded}
 use Rattle.machine.specs.Loading.{taken}
 use Rattle.rows.specs.Layout.{Raw, count}
 use Rattle.rows.specs.Standing.{Stands, Standing}
-use Rattle.rows.proofs.Outline.{source-kinds-are}
+use Rattle.rows.proofs.Outline.{source_kinds_are}
 use Rattle.rows.proofs.Places.{sum_more}
 use Rattle.finishing.specs.Records.{Landed}
 
@@ -19,42 +19,42 @@ module _ (L : Loaded) (b : Raw) (f : Found) (st : Stands L b f) where
   well : WellFormed st.problem
   well = (read_layout (take b.shape.lands b.ws) st.problem st.reads).1
 
-  pub kinds-are : L.target_kinds ≡ f.target.kinds
-  kinds-are = ap (λ (M : Loaded). M.target_kinds) st.takes ∙ ap (λ (x : Seen). x.target.kinds) (ok_same st.told)
+  pub kinds_are : L.target_kinds ≡ f.target.kinds
+  kinds_are = ap (λ (M : Loaded). M.target_kinds) st.takes ∙ ap (λ (x : Seen). x.target.kinds) (ok_same st.told)
 
-  by-problem : (P : Loaded → Type 0) → P (taken st.problem st.source b.shape.capacity) → P L
-  by-problem P = subst P (sym st.takes)
+  by_problem : (P : Loaded → Type 0) → P (taken st.problem st.source b.shape.capacity) → P L
+  by_problem P = subst P (sym st.takes)
 
   pub few_kinds : L.target_kinds ≤ 32
-  few_kinds = by-problem (λ M. M.target_kinds ≤ 32) well.target.few
+  few_kinds = by_problem (λ M. M.target_kinds ≤ 32) well.target.few
 
   pub few_links : L.links ≤ 64
-  few_links = by-problem (λ M. M.links ≤ 64) well.target.few_links
+  few_links = by_problem (λ M. M.links ≤ 64) well.target.few_links
 
-  pub ends-known : (l : ℕ) → l < L.links → (L.from l < L.target_kinds) × (L.to l < L.target_kinds)
-  ends-known = by-problem (λ M. (l : ℕ) → l < M.links → (M.from l < M.target_kinds) × (M.to l < M.target_kinds))
+  pub ends_known : (l : ℕ) → l < L.links → (L.from l < L.target_kinds) × (L.to l < L.target_kinds)
+  ends_known = by_problem (λ M. (l : ℕ) → l < M.links → (M.from l < M.target_kinds) × (M.to l < M.target_kinds))
       (λ l h. let g = All-get_or (GoodLink st.problem.target_kinds) st.problem.target_links l no_link h well.target.known in (g.from_known, g.to_known))
 
   pub map_known : (k : ℕ) → k < L.source_kinds → L.kind_map k < L.target_kinds
-  map_known = by-problem (λ M. (k : ℕ) → k < M.source_kinds → M.kind_map k < M.target_kinds)
+  map_known = by_problem (λ M. (k : ℕ) → k < M.source_kinds → M.kind_map k < M.target_kinds)
       (λ k h. All-get_or (λ t. t < st.problem.target_kinds) st.problem.kind_map k 0 (omega (arith, h, well.kinds_full)) well.kinds)
 
 -- so the fields of the words are small
 module _ {b : Raw} {f : Found} (st : Standing b f) where
-  pub ends-small : {l : ℕ} → l < b.shape.links → (e : ℕ × ℕ) → ((L : Loaded) → Stands L b f → l < L.links → (L.from l ≡ e.0) × (L.to l ≡ e.1)) → (e.0 < 32) × (e.1 < 32)
-  ends-small {l} h e is =
+  pub ends_small : {l : ℕ} → l < b.shape.links → (e : ℕ × ℕ) → ((L : Loaded) → Stands L b f → l < L.links → (L.from l ≡ e.0) × (L.to l ≡ e.1)) → (e.0 < 32) × (e.1 < 32)
+  ends_small {l} h e is =
       let L : Loaded = st.0 in
       let k : l < L.links = omega (arith, st.1.links) in
       let q = is L st.1 k in
-      let n = ends-known L b f st.1 l k in
+      let n = ends_known L b f st.1 l k in
       let m = few_kinds L b f st.1 in
       (omega (arith, q.0, n.0, m), omega (arith, q.1, n.1, m))
 
-  pub landing-small : Landed b f → {k : ℕ} → k < b.shape.kinds → (to : ℕ) → ((L : Loaded) → Stands L b f → k < L.source_kinds → L.kind_map k ≡ to) →
+  pub landing_small : Landed b f → {k : ℕ} → k < b.shape.kinds → (to : ℕ) → ((L : Loaded) → Stands L b f → k < L.source_kinds → L.kind_map k ≡ to) →
       count b.shape k * 65536 + k * 256 + to < 268435456
-  landing-small d {k} h to is =
+  landing_small d {k} h to is =
       let L : Loaded = st.0 in
-      let j : k < L.source_kinds = omega (arith, d.kinds, source-kinds-are L b f st.1) in
+      let j : k < L.source_kinds = omega (arith, d.kinds, source_kinds_are L b f st.1) in
       let m = sum_more (count b.shape) b.shape.kinds k h in
       let t = is L st.1 j in
       let n = map_known L b f st.1 k j in

@@ -12,17 +12,17 @@ module _ (leads : List ℕ) (a b : Raw) (s : Same a b) where
   pub words_same : take b.shape.lands b.ws ≡ take a.shape.lands a.ws
   words_same = ap (λ (h : Shape). take h.lands b.ws) s.shape ∙ same_problem a b s
 
-  pub problem-same : problem_of b ≡ problem_of a
-  problem-same = ap problem_in words_same
+  pub problem_same : problem_of b ≡ problem_of a
+  problem_same = ap problem_in words_same
 
   pub count_same : count_copied b ≡ count_copied a
   unfolding count_copied
   count_same = ap (λ (h : Shape). λ (k : ℕ). cond (ltb k h.kinds) (count h k) 0) s.shape
 
   module _ (placed : ∥ Placed leads a ∥₁) where
-    lead-same : (i q : ℕ) → lead_copied (problem_of a) leads b i q ≡ lead_copied (problem_of a) leads a i q
+    lead_same : (i q : ℕ) → lead_copied (problem_of a) leads b i q ≡ lead_copied (problem_of a) leads a i q
     unfolding lead_copied
-    lead-same i q =
+    lead_same i q =
         let p = problem_of a in
         let n = ap (λ (f : ℕ → ℕ). leaving p f i) count_same in
         ap (λ (k : ℕ). cond (ltb i (length p.source_links) && ltb q k) (Some (get_or b.ws (get_or leads i 0 + q) 0)) None) n
@@ -34,13 +34,13 @@ module _ (leads : List ℕ) (a b : Raw) (s : Same a b) where
           | inr h ↦ (let e = le-ltb i (length p.source_links) h in rw e refl)
         ]
 
-    pub copy-same : copy leads b ≡ copy leads a
-    copy-same = ap (λ p. copy_by p leads b) problem-same
-        ∙ (λ j. record { kinds = (problem_of a).source_kinds; links = length (problem_of a).source_links; ends = (copy leads a).ends; count = count_same j; follow = λ i q. lead-same i q j })
+    pub copy_same : copy leads b ≡ copy leads a
+    copy_same = ap (λ p. copy_by p leads b) problem_same
+        ∙ (λ j. record { kinds = (problem_of a).source_kinds; links = length (problem_of a).source_links; ends = (copy leads a).ends; count = count_same j; follow = λ i q. lead_same i q j })
 
-    pub taken-same : taken_shown leads b ≡ taken_shown leads a
-    taken-same = λ j. taken (problem-same j) (copy-same j) (s.shape j).capacity
+    pub taken_same : taken_shown leads b ≡ taken_shown leads a
+    taken_same = λ j. taken (problem_same j) (copy_same j) (s.shape j).capacity
 
   pub placed_same : Placed leads a → Placed leads b
-  placed_same placed = subst (λ p. PlacedBy p leads b) (sym problem-same)
+  placed_same placed = subst (λ p. PlacedBy p leads b) (sym problem_same)
       (λ i q h k. let P : ℕ → Type 0 = λ n. q < n in subst (λ (x : Shape). Copied x (get_or leads i 0 + q)) (sym s.shape) (placed i q h (subst P (ap (λ (f : ℕ → ℕ). leaving (problem_of a) f i) count_same) k)))

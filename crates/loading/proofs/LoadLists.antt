@@ -3,7 +3,7 @@ use Rattle.std.proofs.Common.{◌≡◌, ℕ, zero, suc, ◌+◌, ◌<◌, ◌�
 use Rattle.std.proofs.lemmas.List.{get_or-take, take_more_set}
 use Rattle.registers.specs.Splices.{spliced}
 use Rattle.registers.specs.Writing.{upto}
-use Rattle.registers.proofs.WrittenLists.{upto-length, upto-at}
+use Rattle.registers.proofs.WrittenLists.{upto_length, upto_at}
 use Rattle.registers.proofs.WrittenSplices.{splice_none, splice_one, splice_then}
 use Rattle.machine.specs.Loading.{sum}
 
@@ -25,14 +25,14 @@ module _ (f : ℕ → ℕ) where
   unfolding upto
   upto_next n = rw add-one refl
 
-  pub put-none : (at : ℕ) (old : List ℕ) → old ≡ spliced at (upto f 0) old
+  pub put_none : (at : ℕ) (old : List ℕ) → old ≡ spliced at (upto f 0) old
   unfolding upto
-  put-none at old = splice_none at old
+  put_none at old = splice_none at old
 
   -- one more is written behind the first n
-  pub put-more : (at n b v : ℕ) (old mid : List ℕ) → at + n ≡ b → b < length mid → at ≤ length old → v ≡ f n → mid ≡ spliced at (upto f n) old → set mid b v ≡ spliced at (upto f (n + 1)) old
-  put-more at n b v old mid e h k p q =
-      splice_then at b (upto f n) (f n ∷ []) old mid (set mid b v) k (ap (λ i. at + i) (upto-length f n) ∙ e) q (splice_one b v mid h ∙ ap (λ i. spliced b (i ∷ []) mid) p)
+  pub put_more : (at n b v : ℕ) (old mid : List ℕ) → at + n ≡ b → b < length mid → at ≤ length old → v ≡ f n → mid ≡ spliced at (upto f n) old → set mid b v ≡ spliced at (upto f (n + 1)) old
+  put_more at n b v old mid e h k p q =
+      splice_then at b (upto f n) (f n ∷ []) old mid (set mid b v) k (ap (λ i. at + i) (upto_length f n) ∙ e) q (splice_one b v mid h ∙ ap (λ i. spliced b (i ∷ []) mid) p)
       ∙ ap (λ xs. spliced at xs old) (sym (upto_next n))
 
   -- one more is kept in an array
@@ -40,8 +40,8 @@ module _ (f : ℕ → ℕ) where
   unfolding upto
   none_kept = refl
 
-  pub take-upto : (xs : List ℕ) (i v : ℕ) → i < length xs → v ≡ f i → take i xs ≡ upto f i → take (i + 1) (set xs i v) ≡ upto f (i + 1)
-  take-upto xs i v h p q = take_more_set xs i v h ∙ ap (λ ys. ys ++ v ∷ []) q ∙ ap (λ w. upto f i ++ w ∷ []) p ∙ sym (upto_next i)
+  pub take_upto : (xs : List ℕ) (i v : ℕ) → i < length xs → v ≡ f i → take i xs ≡ upto f i → take (i + 1) (set xs i v) ≡ upto f (i + 1)
+  take_upto xs i v h p q = take_more_set xs i v h ∙ ap (λ ys. ys ++ v ∷ []) q ∙ ap (λ w. upto f i ++ w ∷ []) p ∙ sym (upto_next i)
 
-  pub upto-kept : (xs : List ℕ) (n i : ℕ) → take n xs ≡ upto f n → i < n → get_or xs i 0 ≡ f i
-  upto-kept xs n i e h = sym (get_or-take n xs i 0 h) ∙ ap (λ ys. get_or ys i 0) e ∙ upto-at f n i 0 h
+  pub upto_kept : (xs : List ℕ) (n i : ℕ) → take n xs ≡ upto f n → i < n → get_or xs i 0 ≡ f i
+  upto_kept xs n i e h = sym (get_or-take n xs i 0 h) ∙ ap (λ ys. get_or ys i 0) e ∙ upto_at f n i 0 h

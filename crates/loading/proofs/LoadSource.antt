@@ -15,7 +15,7 @@ use Rattle.machine.specs.declared.answers.LoadFault.{LoadFault}
 use Rattle.machine.specs.declared.answers.LoadFault.TheVariants as fault
 use Rattle.machine.specs.Loaded.{Loaded}
 use Rattle.machine.specs.Loading.{sum, source_link, other_shape, source_records, link_strays, needed, capacity_of, taken, with_problem, unless_strays, load_problem, load}
-use Rattle.rows.proofs.Outline.{schema_read, link-in, link-ends}
+use Rattle.rows.proofs.Outline.{schema_read, link_in, link_ends}
 use Rattle.loading.specs.LoadedWords.{or_no_problem, problem_in, Sourced, leaving}
 use Rattle.loading.specs.Taking.{Planned}
 use Rattle.loading.specs.declared.Loading.{Loading}
@@ -24,7 +24,7 @@ problem_sourced : (ws : List ℕ) (p : Problem) → read ws ≡ Ok p → problem
 problem_sourced ws p e same =
     let w = (read_layout ws p e).1 in
     let r = schema_read 0 ws 0 p.source_kinds p.source_links (problem_told ws p e).sourced in
-    let at = link-ends p.source_kinds ws 1 p.source_links r in
+    let at = link_ends p.source_kinds ws 1 p.source_links r in
     let d = end_told ws _ _ (problem_told ws p e).closed in
     let n : length ws ≤ 268435456 = omega (arith, d.0.small, d.1) in
     record {
@@ -33,7 +33,7 @@ problem_sourced ws p e same =
       few_kinds = w.source.few;
       few_links = w.source.few_links;
       short = n;
-      inside = link-in p.source_kinds ws 1 p.source_links r;
+      inside = link_in p.source_kinds ws 1 p.source_links r;
       from = λ i h. (at i h).0 ∙ ap (λ q. (source_link q i).from) (sym same);
       to = λ i h. (at i h).1 ∙ ap (λ q. (source_link q i).to) (sym same);
     }
@@ -91,42 +91,42 @@ module _ (ws : List ℕ) (f : Found) (t : told (Ok f) ≡ outline_of (read ws)) 
     abbrev took : Loaded
     took = taken (problem_in ws) m (capacity_of work ws (problem_in ws) m)
 
-    load-tests : load work ws m ≡ tests shape large stray short took
-    load-tests = ap (λ r. with_problem r (load_problem work ws m)) reads
+    load_tests : load work ws m ≡ tests shape large stray short took
+    load_tests = ap (λ r. with_problem r (load_problem work ws m)) reads
 
-    pub refused-shape : true ≡ shape → load work ws m ≡ Err fault.Shape
-    refused-shape a = load-tests ∙ first shape large stray short took (sym a)
+    pub refused_shape : true ≡ shape → load work ws m ≡ Err fault.Shape
+    refused_shape a = load_tests ∙ first shape large stray short took (sym a)
 
     -- the records and the words as the code has counted them
     module _ (a : false ≡ shape) (n : ℕ) (records : n ≡ sum m.count f.source.kinds) where
       counted : n ≡ source_records (problem_in ws) m
       counted = records ∙ ap (sum m.count) sourced.kinds
 
-      pub refused-large : 4095 < n → load work ws m ≡ Err fault.Large
-      refused-large h = let P : ℕ → Type 0 = λ k. 4095 < k in load-tests ∙ second shape large stray short took (sym a) (lt-ltb 4095 (source_records (problem_in ws) m) (subst P counted h))
+      pub refused_large : 4095 < n → load work ws m ≡ Err fault.Large
+      refused_large h = let P : ℕ → Type 0 = λ k. 4095 < k in load_tests ∙ second shape large stray short took (sym a) (lt-ltb 4095 (source_records (problem_in ws) m) (subst P counted h))
 
       module _ (h : n ≤ 4095) where
         few : large ≡ false
         few = let P : ℕ → Type 0 = λ k. k ≤ 4095 in le-ltb 4095 (source_records (problem_in ws) m) (subst P counted h)
 
-        pub refused-leads : (i : ℕ) → Some i ≡ stray → load work ws m ≡ Err (fault.Leads i)
-        refused-leads i o = load-tests ∙ third shape large stray short took i (sym a) few (sym o)
+        pub refused_leads : (i : ℕ) → Some i ≡ stray → load work ws m ≡ Err (fault.Leads i)
+        refused_leads i o = load_tests ∙ third shape large stray short took i (sym a) few (sym o)
 
         module _ (o : None ≡ stray) (base : ℕ) (leads : base ≡ length ws + n + sum (leaving (problem_in ws) m.count) f.source.links) where
           whole : base ≡ needed ws (problem_in ws) m
           whole = leads ∙ ap (λ k. length ws + k + sum (leaving (problem_in ws) m.count) f.source.links) counted
               ∙ ap (λ k. length ws + source_records (problem_in ws) m + sum (leaving (problem_in ws) m.count) k) sourced.links
 
-          pub refused-memory : work < base → load work ws m ≡ Err fault.Memory
-          refused-memory k = let P : ℕ → Type 0 = λ n. work < n in
-              load-tests ∙ fourth shape large stray short took (sym a) few (sym o) (lt-ltb work (needed ws (problem_in ws) m) (subst P whole k))
+          pub refused_memory : work < base → load work ws m ≡ Err fault.Memory
+          refused_memory k = let P : ℕ → Type 0 = λ n. work < n in
+              load_tests ∙ fourth shape large stray short took (sym a) few (sym o) (lt-ltb work (needed ws (problem_in ws) m) (subst P whole k))
 
           pub loaded : (capacity : ℕ) → base ≤ work → capacity ≡ min 65535 ((work - base) / (f.target.links + 3)) → load work ws m ≡ Ok (taken (problem_in ws) m capacity)
           loaded capacity k c =
               let P : ℕ → Type 0 = λ n. n ≤ work in
               let same : capacity_of work ws (problem_in ws) m ≡ capacity =
               ap (λ x. min 65535 ((work - x) / (length (problem_in ws).target_links + 3))) (sym whole) ∙ ap (λ x. min 65535 ((work - base) / (x + 3))) (sym targets.0) ∙ sym c in
-              load-tests ∙ passed shape large stray short took (sym a) few (sym o) (le-ltb work (needed ws (problem_in ws) m) (subst P whole k)) ∙ ap (λ x. Ok (taken (problem_in ws) m x)) same
+              load_tests ∙ passed shape large stray short took (sym a) few (sym o) (le-ltb work (needed ws (problem_in ws) m) (subst P whole k)) ∙ ap (λ x. Ok (taken (problem_in ws) m x)) same
 
 -- as many entries as the words behind the copies hold
 capacity_fits : (work base links : ℕ) → base ≤ work → base + min 65535 ((work - base) / (links + 3)) * (links + 3) ≤ work

@@ -25,49 +25,49 @@ put_cases t u o h = go (same u t) refl
 
 -- living ends
 module _ (f : ℕ → ℕ) where
-  pub chase-fix : (n x : ℕ) → f x ≡ x → chase f n x ≡ x
+  pub chase_fix : (n x : ℕ) → f x ≡ x → chase f n x ≡ x
   unfolding chase
-  chase-fix zero x h = refl
-  chase-fix (suc n) x h = chase-fix n (f x) (cc) ∙ h
+  chase_fix zero x h = refl
+  chase_fix (suc n) x h = chase_fix n (f x) (cc) ∙ h
 
-  pub chase-out : (n x : ℕ) → chase f (suc n) x ≡ f (chase f n x)
+  pub chase_out : (n x : ℕ) → chase f (suc n) x ≡ f (chase f n x)
   unfolding chase
-  chase-out zero x = refl
-  chase-out (suc n) x = chase-out n (f x)
+  chase_out zero x = refl
+  chase_out (suc n) x = chase_out n (f x)
 
-  pub chase-keeps : (P : ℕ → Type 0) → ((x : ℕ) → P x → P (f x)) → (n x : ℕ) → P x → P (chase f n x)
+  pub chase_keeps : (P : ℕ → Type 0) → ((x : ℕ) → P x → P (f x)) → (n x : ℕ) → P x → P (chase f n x)
   unfolding chase
-  chase-keeps P k zero x h = h
-  chase-keeps P k (suc n) x h = chase-keeps P k n (f x) (k x h)
+  chase_keeps P k zero x h = h
+  chase_keeps P k (suc n) x h = chase_keeps P k n (f x) (k x h)
 
-  pub chase-back : (P : ℕ → Type 0) → ((x : ℕ) → P (f x) → P x) → (n x : ℕ) → P (chase f n x) → P x
+  pub chase_back : (P : ℕ → Type 0) → ((x : ℕ) → P (f x) → P x) → (n x : ℕ) → P (chase f n x) → P x
   unfolding chase
-  chase-back P k zero x h = h
-  chase-back P k (suc n) x h = k x (chase-back P k n (f x) h)
+  chase_back P k zero x h = h
+  chase_back P k (suc n) x h = k x (chase_back P k n (f x) h)
 
   module _ (lower : (x : ℕ) → f x ≤ x) where
-    pub chase-lives : (n x : ℕ) → x ≤ n → f (chase f n x) ≡ chase f n x
+    pub chase_lives : (n x : ℕ) → x ≤ n → f (chase f n x) ≡ chase f n x
     unfolding chase
-    chase-lives zero x h = omega (arith, lower x)
-    chase-lives (suc n) x h = elim (cases_eq (f x) x) [
-      | inl e ↦ (let q : chase f n (f x) ≡ f x = chase-fix n (f x) (cc) in cc)
-      | inr e ↦ chase-lives n (f x) (omega (arith, lower x))
+    chase_lives zero x h = omega (arith, lower x)
+    chase_lives (suc n) x h = elim (cases_eq (f x) x) [
+      | inl e ↦ (let q : chase f n (f x) ≡ f x = chase_fix n (f x) (cc) in cc)
+      | inr e ↦ chase_lives n (f x) (omega (arith, lower x))
     ]
 
-    pub chase-lower : (n x : ℕ) → chase f n x ≤ x
+    pub chase_lower : (n x : ℕ) → chase f n x ≤ x
     unfolding chase
-    chase-lower zero x = omega arith
-    chase-lower (suc n) x = omega (arith, lower x, chase-lower n (f x))
+    chase_lower zero x = omega arith
+    chase_lower (suc n) x = omega (arith, lower x, chase_lower n (f x))
 
-    pub chase-enough : (n x : ℕ) → x ≤ n → chase f n x ≡ chase f x x
+    pub chase_enough : (n x : ℕ) → x ≤ n → chase f n x ≡ chase f x x
     unfolding chase
-    chase-enough zero x h = let e : x ≡ 0 = omega arith in cc
-    chase-enough (suc n) x h = elim (cases_eq x (suc n)) [
+    chase_enough zero x h = let e : x ≡ 0 = omega arith in cc
+    chase_enough (suc n) x h = elim (cases_eq x (suc n)) [
       | inl e ↦ rw e refl
-      | inr e ↦ chase-out n x ∙ (chase-lives n x (omega arith) ∙ chase-enough n x (omega arith))
+      | inr e ↦ chase_out n x ∙ (chase_lives n x (omega arith) ∙ chase_enough n x (omega arith))
     ]
 
     -- the living end of the forward is the living end
-    pub end-forward : (x : ℕ) → chase f (f x) (f x) ≡ chase f x x
+    pub end_forward : (x : ℕ) → chase f (f x) (f x) ≡ chase f x x
     unfolding chase
-    end-forward x = sym (chase-enough x (f x) (lower x)) ∙ (chase-out x x ∙ chase-lives x x (omega arith))
+    end_forward x = sym (chase_enough x (f x) (lower x)) ∙ (chase_out x x ∙ chase_lives x x (omega arith))

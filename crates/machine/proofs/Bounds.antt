@@ -20,10 +20,10 @@ use Rattle.machine.proofs.Closed.{Closed, Before, closed_all}
 use Rattle.machine.proofs.Ranks.{rank_small}
 use Rattle.machine.proofs.Settle.{settled_moved}
 use Rattle.machine.proofs.Runs.{unless_cases, cond_some, cond_else, call_good, calls_good, calls_kinds, start_good, start_kinds}
-use Rattle.machine.proofs.Numbering.{Fine, fine_short, grown-fine}
+use Rattle.machine.proofs.Numbering.{Fine, fine_short, grown_fine}
 use Rattle.machine.proofs.Own.{Living}
 use Rattle.machine.proofs.Twins.{fine_each}
-use Rattle.machine.proofs.Entries.{tally-yes, tally-no, entry_each, entry_kind}
+use Rattle.machine.proofs.Entries.{tally_yes, tally_no, entry_each, entry_kind}
 
 abbrev Within : Loaded → State → Type 0
 Within L s = s.given ≤ L.capacity
@@ -86,7 +86,7 @@ unfolding tally
 tally_short kind k [] = omega arith
 tally_short kind k (x ∷ xs) =
     let r = tally_short kind k xs in
-    elim (cases_eq (kind x) k) [ inl e ↦ (let q = tally-yes kind k x xs e in omega (arith, r, q)) | inr e ↦ (let q = tally-no kind k x xs e in omega (arith, r, q)) ]
+    elim (cases_eq (kind x) k) [ inl e ↦ (let q = tally_yes kind k x xs e in omega (arith, r, q)) | inr e ↦ (let q = tally_no kind k x xs e in omega (arith, r, q)) ]
 
 pub kind_known : (L : Loaded) → Accepted L → (s : State) → Good L s → Kinds L s → (e : ℕ) → e < s.given → s.kind e < L.target_kinds
 kind_known L acc s g ks e h = closed_all known (g.reached e h)
@@ -103,7 +103,7 @@ finish_bounds L acc cs quiet =
     let s = calls L cs start in
     let g = calls_good L acc cs start (start_good L) in
     let ks = calls_kinds L acc cs start (start_good L) (start_kinds L) in
-    let fine = grown-fine L (calls L cs start) g quiet (calls L cs start).given in
+    let fine = grown_fine L (calls L cs start) g quiet (calls L cs start).given in
     let short = fine_short (calls L cs start).given _ (sequence L (calls L cs start)) (λ y h. h.0) fine in
     record {
       few = λ k. (let a = tally_short (calls L cs start).kind k (sequence L (calls L cs start)) in let b = all_within L acc cs in omega (arith, a, b, short));

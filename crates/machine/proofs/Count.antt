@@ -13,13 +13,13 @@ use Rattle.machine.specs.Readings.{Accepted}
 use Rattle.machine.specs.Sound.{InUse, Sound}
 use Rattle.machine.specs.Shift.{Room, AllRoom, Todo, does, ends, carry_out, plan, next, step, Call, plain, stepping, call, calls}
 use Rattle.machine.proofs.Wide.{Good}
-use Rattle.machine.proofs.Check.{on_cases, Valid, walk-valid, walk-in-valid, steps}
-use Rattle.machine.proofs.Ranks.{rank-live, rank-dead, rank_small, merge_room}
+use Rattle.machine.proofs.Check.{on_cases, Valid, walk_valid, walk_in_valid, steps}
+use Rattle.machine.proofs.Ranks.{rank_live, rank_dead, rank_small, merge_room}
 use Rattle.machine.proofs.Settle.{Moved, settled_moved}
-use Rattle.machine.proofs.Runs.{unless_cases, rule-tests, link-tests, call_good, start_good}
+use Rattle.machine.proofs.Runs.{unless_cases, rule_tests, link_tests, call_good, start_good}
 
 born_room : (k : ℕ) (t : Slot) (s : State) → Room s → Room (born k t s)
-born_room k t s r = elim (cases_eq (s.forward s.given) s.given) [ inl e ↦ omega (arith, r, rank-live s.forward s.given e) | inr e ↦ omega (arith, r, rank-dead s.forward s.given e) ]
+born_room k t s r = elim (cases_eq (s.forward s.given) s.given) [ inl e ↦ omega (arith, r, rank_live s.forward s.given e) | inr e ↦ omega (arith, r, rank_dead s.forward s.given e) ]
 
 sides_room : (L : Loaded) (s : State) → Sound L s → Room s → (p q : Walked) → Valid L s p → Valid L s q → Room (effect (sides p q) s)
 sides_room L s ok r (ended a) (ended b) u v = go (eqb a b)
@@ -40,16 +40,16 @@ apply_room : (L : Loaded) → Accepted L → (o : Op) (s : State) → Good L s �
 apply_room L acc (land k r) s g q = unless_cases Room (land_fault L s k r) s (born (L.kind_map k) (landing k r) s) q (λ e. born_room (L.kind_map k) (landing k r) s q)
 apply_room L acc (define e l) s g q = unless_cases Room (define_fault L s e l) s (born (L.to l) (cell e l) s) q (λ h. born_room (L.to l) (cell e l) s q)
 apply_room L acc (check_rule e i) s g q = unless_cases Room (rule_fault L s e i) s (effect (rule_effect L s e i) s) q
-    (λ h. let t = rule-tests L s e i h in sides_room L s g.sound q (walk s.held e (L.left i)) (walk s.held e (L.right i))
-    (walk-valid L s g.sound (L.left i) e t.0 (steps L (L.first i) (L.left i) (acc.left_in i t.1)))
-    (walk-valid L s g.sound (L.right i) e t.0 (steps L (L.first i) (L.right i) (acc.right_in i t.1))))
+    (λ h. let t = rule_tests L s e i h in sides_room L s g.sound q (walk s.held e (L.left i)) (walk s.held e (L.right i))
+    (walk_valid L s g.sound (L.left i) e t.0 (steps L (L.first i) (L.left i) (acc.left_in i t.1)))
+    (walk_valid L s g.sound (L.right i) e t.0 (steps L (L.first i) (L.right i) (acc.right_in i t.1))))
 apply_room L acc (check_link i r) s g q = unless_cases Room (link_fault L s i r) s (effect (link_effect L s i r) s) q
-    (λ h. let t = link-tests L s i r h in
+    (λ h. let t = link_tests L s i r h in
     let a : Slot = landing (L.source_to i) (L.lead i r) in
     let b : Slot = landing (L.source_from i) r in
     sides_room L s g.sound q (walk_in s.held a []) (walk_in s.held b (L.link_map i))
-    (walk-in-valid L s g.sound [] a (acc.to_in i t.0, acc.lead_in i r t.0 t.1) tt)
-    (walk-in-valid L s g.sound (L.link_map i) b (acc.from_in i t.0, t.1) (steps L (L.kind_map (L.source_from i)) (L.link_map i) (acc.map_in i t.0))))
+    (walk_in_valid L s g.sound [] a (acc.to_in i t.0, acc.lead_in i r t.0 t.1) tt)
+    (walk_in_valid L s g.sound (L.link_map i) b (acc.from_in i t.0, t.1) (steps L (L.kind_map (L.source_from i)) (L.link_map i) (acc.map_in i t.0))))
 apply_room L acc settle s g q = unless_cases Room (settle_fault s) s (settled L s) q (λ h. settled_room L s g.sound q)
 apply_room L acc sweep s g q = unless_cases Room (sweep_fault s) s (swept s) q (λ h. omega (arith, rank_small (λ x. x) (rank s.forward s.given)))
 

@@ -70,25 +70,25 @@ closed_quiet : (x : Effect) (o : Op) → x ≡ closed → acts x o ≡ None
 closed_quiet x o e = cc
 
 module _ (L : Loaded) (s : State) (ok : Sound L s) (ks : Kinds L s) (quiet : s.waiting ≡ []) (all : (e l : ℕ) → e < s.given → s.forward e ≡ e → l < L.links → s.kind e ≡ L.from l → (w : ℕ) × (s.held (cell e l) ≡ Some w)) where
-  used-lives : (x : ℕ) → InUse s x → s.forward x ≡ x
-  used-lives x u = elim (cases_eq (s.forward x) x) [ inl e ↦ e | inr e ↦ (let m : Mem x [] = subst (Mem x) quiet (u.if_dead e) in elim m [ ]) ]
+  used_lives : (x : ℕ) → InUse s x → s.forward x ≡ x
+  used_lives x u = elim (cases_eq (s.forward x) x) [ inl e ↦ e | inr e ↦ (let m : Mem x [] = subst (Mem x) quiet (u.if_dead e) in elim m [ ]) ]
 
   walk_ends : (ls : List ℕ) (e k : ℕ) → InUse s e → s.kind e ≡ k → Joins L k ls → Ended (walk s.held e ls)
   unfolding walk
   walk_ends [] e k u ke j = tt
   walk_ends (l ∷ ls) e k u ke j =
-      let a = all e l u.below (used-lives e u) j.0 (ke ∙ j.1) in
+      let a = all e l u.below (used_lives e u) j.0 (ke ∙ j.1) in
       subst (λ o. Ended (Rattle.machine.specs.State.on o (stopped (cell e l) (length ls)) (λ w. walk s.held w ls))) (sym a.1)
       (walk_ends ls a.0 (L.to l) (ok.used (cell e l) a.0 a.1).0 (ks.fit (cell e l) a.0 a.1).0 j.2)
 
-  walk-in-ends : (ls : List ℕ) (t : Slot) → ((w : ℕ) × (s.held t ≡ Some w)) → Joins L (content_kind L t) ls → Ended (walk_in s.held t ls)
-  walk-in-ends ls t a j =
+  walk_in_ends : (ls : List ℕ) (t : Slot) → ((w : ℕ) × (s.held t ≡ Some w)) → Joins L (content_kind L t) ls → Ended (walk_in s.held t ls)
+  walk_in_ends ls t a j =
       subst (λ o. Ended (Rattle.machine.specs.State.on o (stopped t (length ls)) (λ w. walk s.held w ls))) (sym a.1)
       (walk_ends ls a.0 (content_kind L t) (ok.used t a.0 a.1).0 (ks.fit t a.0 a.1).0 j)
 
 module _ (L : Loaded) (acc : Accepted L) (s : State) (ok : Sound L s) (ks : Kinds L s) where
-  pub done-complete : next L s ≡ None → Complete L s
-  done-complete e = go (waits s.waiting) refl e
+  pub done_complete : next L s ≡ None → Complete L s
+  done_complete e = go (waits s.waiting) refl e
     where
       go : (b : Bool) → waits s.waiting ≡ b → cond b (Some settle) (or_else (link_next L s) (or_else (rule_next L s) (or_else (land_next L s) (define_next L s)))) ≡ None → Complete L s
       go true w h = absurd (absurd_op settle (Some settle) refl h)
@@ -111,8 +111,8 @@ module _ (L : Loaded) (acc : Accepted L) (s : State) (ok : Sound L s) (ks : Kind
                 let t : Slot = landing (L.source_to i) (L.lead i r) in
                 let f : Slot = landing (L.source_from i) r in
                 quiet_closed (walk_in s.held t []) (walk_in s.held f (L.link_map i)) (check_link i r)
-                (walk-in-ends L s ok ks quiet defined [] t (landed (L.source_to i) (L.lead i r) (acc.to_in i hi) (acc.lead_in i r hi hr)) tt)
-                (walk-in-ends L s ok ks quiet defined (L.link_map i) f (landed (L.source_from i) r (acc.from_in i hi) hr) (acc.map_in i hi))
+                (walk_in_ends L s ok ks quiet defined [] t (landed (L.source_to i) (L.lead i r) (acc.to_in i hi) (acc.lead_in i r hi hr)) tt)
+                (walk_in_ends L s ok ks quiet defined (L.link_map i) f (landed (L.source_from i) r (acc.from_in i hi) hr) (acc.map_in i hi))
                 (lowest_none (L.count (L.source_from i)) _ (lowest_none L.source_links _ a.0 i hi) r hr);
             rules_closed = λ e i he live hi ke.
                 let u : InUse s e = record { below = he; if_dead = λ d. absurd (d live) } in
@@ -122,8 +122,8 @@ module _ (L : Loaded) (acc : Accepted L) (s : State) (ok : Sound L s) (ks : Kind
                 (only_none (eqb (s.kind e) (L.first i)) _ (lowest_none L.rules _ (only_none (eqb (s.forward e) e) _ (lowest_none s.given _ b.0 e he) (eq-eqb (s.forward e) e live)) i hi) (eq-eqb (s.kind e) (L.first i) ke));
           }
 
-  pub complete-done : Complete L s → next L s ≡ None
-  complete-done d =
+  pub complete_done : Complete L s → next L s ≡ None
+  complete_done d =
       subst (λ l. cond (waits l) (Some settle) (or_else (link_next L s) (or_else (rule_next L s) (or_else (land_next L s) (define_next L s)))) ≡ None) (sym d.quiet)
       (none_or (link_next L s) _ (none_lowest L.source_links _ (λ i hi. none_lowest (L.count (L.source_from i)) _ (λ r hr. closed_quiet (link_effect L s i r) (check_link i r) (d.links_closed i r hi hr))))
       (none_or (rule_next L s) _ (none_lowest s.given _ (λ e he. none_only (eqb (s.forward e) e) _ (λ live. none_lowest L.rules _ (λ i hi. none_only (eqb (s.kind e) (L.first i)) _ (λ ke. closed_quiet (rule_effect L s e i) (check_rule e i) (d.rules_closed e i he (eqb-true (s.forward e) e live) hi (eqb-true (s.kind e) (L.first i) ke)))))))
@@ -132,17 +132,17 @@ module _ (L : Loaded) (acc : Accepted L) (s : State) (ok : Sound L s) (ks : Kind
       (none_lowest s.given _ (λ e he. none_only (eqb (s.forward e) e) _ (λ live. none_lowest L.links _ (λ l hl. none_only (eqb (s.kind e) (L.from l) && not (filled (s.held (cell e l)))) _ (λ both.
       let p = and_parts (eqb (s.kind e) (L.from l)) (not (filled (s.held (cell e l)))) both in
       let a = d.defined e l he (eqb-true (s.forward e) e live) hl (eqb-true (s.kind e) (L.from l) p.0) in
-      absurd (filled-not (s.held (cell e l)) a.0 a.1 p.1)))))))))
+      absurd (filled_not (s.held (cell e l)) a.0 a.1 p.1)))))))))
     where
-      filled-not : (x : Option ℕ) (w : ℕ) → x ≡ Some w → not (filled x) ≡ true → ⊥
-      filled-not None w e h = some_none w None e refl
-      filled-not (Some y) w e h = Rattle.std.proofs.lemmas.Bool.false≢true h
+      filled_not : (x : Option ℕ) (w : ℕ) → x ≡ Some w → not (filled x) ≡ true → ⊥
+      filled_not None w e h = some_none w None e refl
+      filled_not (Some y) w e h = Rattle.std.proofs.lemmas.Bool.false≢true h
 
 pub complete_when_done : CompleteWhenDone
 complete_when_done L acc cs =
     let g = calls_good L acc cs start (start_good L) in
     let k = calls_kinds L acc cs start (start_good L) (start_kinds L) in
-    (done-complete L acc (calls L cs start) g.sound k, complete-done L acc (calls L cs start) g.sound k)
+    (done_complete L acc (calls L cs start) g.sound k, complete_done L acc (calls L cs start) g.sound k)
 
 sides_closed : (p q : Walked) → sides p q ≡ closed → (a : ℕ) × (p ≡ ended a) × (q ≡ ended a)
 sides_closed (ended a) (ended b) z = go (eqb a b) refl z

@@ -18,7 +18,7 @@ use Rattle.machine.specs.Loading.{source_link, other_ends, other_shape, source_r
 use Rattle.machine.specs.Readings.{Joins, end_kind, Accepted}
 use Rattle.machine.specs.Finish.{with_capacity}
 use Rattle.machine.specs.Promise.{TakenFrom}
-use Rattle.registers.proofs.WrittenLists.{none_told, lowest-told}
+use Rattle.registers.proofs.WrittenLists.{none_told, lowest_told}
 use Rattle.machine.proofs.Tests.{lead_told}
 
 -- the tests of a source passed
@@ -78,21 +78,21 @@ ends_told a (Some d) e =
 
 module _ (p : Problem) (m : Meaning) (c : ℕ) where
   -- a path that walks through the target's links joins them, and ends where it walks to
-  walk-joins : (kind : ℕ) (gs : List ℕ) (end : ℕ) → Walks p.target_links kind gs end → Joins (taken p m c) kind gs
-  walk-joins kind [] end w = tt
-  walk-joins kind (g ∷ gs) end w = (w.0, sym w.1, walk-joins (get_or p.target_links g no_link).to gs end w.2)
+  walk_joins : (kind : ℕ) (gs : List ℕ) (end : ℕ) → Walks p.target_links kind gs end → Joins (taken p m c) kind gs
+  walk_joins kind [] end w = tt
+  walk_joins kind (g ∷ gs) end w = (w.0, sym w.1, walk_joins (get_or p.target_links g no_link).to gs end w.2)
 
   walk_ends : (kind : ℕ) (gs : List ℕ) (end : ℕ) → Walks p.target_links kind gs end → end_kind (taken p m c) kind gs ≡ end
   walk_ends kind [] end w = w
   walk_ends kind (g ∷ gs) end w = walk_ends (get_or p.target_links g no_link).to gs end w.2
 
   module _ (f : Fits p m) where
-    lead-at : (i r : ℕ) → i < length p.source_links → r < m.count (source_link p i).from → (m.follow i r ≡ Some ((taken p m c).lead i r)) × ((taken p m c).lead i r < m.count (source_link p i).to)
-    lead-at i r h k = lead_told (m.count (source_link p i).to) (m.follow i r)
-        (none_told (λ q. astray (m.count (source_link p i).to) (m.follow i q)) (m.count (source_link p i).from) (lowest-told (link_strays p m) (length p.source_links) f.leads i h) r k)
+    lead_at : (i r : ℕ) → i < length p.source_links → r < m.count (source_link p i).from → (m.follow i r ≡ Some ((taken p m c).lead i r)) × ((taken p m c).lead i r < m.count (source_link p i).to)
+    lead_at i r h k = lead_told (m.count (source_link p i).to) (m.follow i r)
+        (none_told (λ q. astray (m.count (source_link p i).to) (m.follow i q)) (m.count (source_link p i).from) (lowest_told (link_strays p m) (length p.source_links) f.leads i h) r k)
 
-    taken-accepted : WellFormed p → Accepted (taken p m c)
-    taken-accepted w =
+    taken_accepted : WellFormed p → Accepted (taken p m c)
+    taken_accepted w =
         let source = λ (i : ℕ) (h : i < length p.source_links). All-get_or (GoodLink p.source_kinds) p.source_links i no_link h w.source.known in
         let target = λ (l : ℕ) (h : l < length p.target_links). All-get_or (GoodLink p.target_kinds) p.target_links l no_link h w.target.known in
         let rule = λ (i : ℕ) (h : i < length p.rules). All-get_or (GoodRule p.target_kinds p.target_links) p.rules i no_rule h w.rules in
@@ -103,16 +103,16 @@ module _ (p : Problem) (m : Meaning) (c : ℕ) where
           map_known = λ k h. All-get_or (λ j. j < p.target_kinds) p.kind_map k 0 (omega (arith, w.kinds_full)) w.kinds;
           from_in = λ i h. (source i h).from_known;
           to_in = λ i h. (source i h).to_known;
-          lead_in = λ i r h k. (lead-at i r h k).1;
-          left_in = λ i h. walk-joins _ _ _ (rule i h).left_walks;
-          right_in = λ i h. walk-joins _ _ _ (rule i h).right_walks;
+          lead_in = λ i r h k. (lead_at i r h k).1;
+          left_in = λ i h. walk_joins _ _ _ (rule i h).left_walks;
+          right_in = λ i h. walk_joins _ _ _ (rule i h).right_walks;
           one_end = λ i h. walk_ends _ _ _ (rule i h).left_walks ∙ sym (walk_ends _ _ _ (rule i h).right_walks);
-          map_in = λ i h. walk-joins _ _ _ (path i h).walks;
+          map_in = λ i h. walk_joins _ _ _ (path i h).walks;
           map_end = λ i h. walk_ends _ _ _ (path i h).walks;
         }
 
-    taken-taken : TakenFrom m (taken p m c)
-    taken-taken =
+    taken_taken : TakenFrom m (taken p m c)
+    taken_taken =
         let a = or_parts (not (eqb m.kinds p.source_kinds)) _ f.shape in
         let b = or_parts (not (eqb m.links (length p.source_links))) _ a.1 in
         record {
@@ -120,15 +120,15 @@ module _ (p : Problem) (m : Meaning) (c : ℕ) where
           links = sym (eqb-true m.links (length p.source_links) (not-false _ b.0));
           counts = refl;
           ends = λ i h. ends_told (source_link p i) (m.ends i) (none_told (λ j. other_ends (source_link p j) (m.ends j)) (length p.source_links) b.1 i h);
-          leads = λ i r h k. (lead-at i r h k).0;
+          leads = λ i r h k. (lead_at i r h k).0;
         }
 
 module _ (work : ℕ) (ws : List ℕ) (m : Meaning) (L : Loaded) (e : load work ws m ≡ Ok L) where
   pub accepted : Accepted L
-  accepted = let l = loads work ws m L e in subst Accepted (sym l.takes) (taken-accepted l.problem m _ l.fits l.well_formed)
+  accepted = let l = loads work ws m L e in subst Accepted (sym l.takes) (taken_accepted l.problem m _ l.fits l.well_formed)
 
-  pub taken-from : TakenFrom m L
-  taken-from = let l = loads work ws m L e in subst (TakenFrom m) (sym l.takes) (taken-taken l.problem m _ l.fits)
+  pub taken_from : TakenFrom m L
+  taken_from = let l = loads work ws m L e in subst (TakenFrom m) (sym l.takes) (taken_taken l.problem m _ l.fits)
 
   -- another load of the same words and meaning has another capacity, and no more
   pub same_load : (work' : ℕ) (K : Loaded) → load work' ws m ≡ Ok K → K ≡ with_capacity K.capacity L

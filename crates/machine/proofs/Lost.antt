@@ -14,11 +14,11 @@ use Rattle.machine.specs.Sound.{InUse}
 use Rattle.machine.specs.Shift.{Todo, does, ends, carry_out, plan, next, step, Call, plain, stepping, call, calls}
 use Rattle.machine.specs.Lost.{op_renames, todo_renames, call_renames, calls_rename, NotLost, NothingLost, NeverLost}
 use Rattle.machine.proofs.Wide.{Good}
-use Rattle.machine.proofs.Kept.{place, Kept, kept_none, kept_then, merge-kept, fill-kept, born-kept}
+use Rattle.machine.proofs.Kept.{place, Kept, kept_none, kept_then, merge_kept, fill_kept, born_kept}
 use Rattle.machine.proofs.Check.{on_cases}
 use Rattle.machine.proofs.Settle.{settled_moved}
-use Rattle.machine.proofs.Sweep.{use-end, swept_kept}
-use Rattle.machine.proofs.Runs.{unless_cases, none_waits, land-tests, define-tests, call_good, calls_good, start_good}
+use Rattle.machine.proofs.Sweep.{use_end, swept_kept}
+use Rattle.machine.proofs.Runs.{unless_cases, none_waits, land_tests, define_tests, call_good, calls_good, start_good}
 
 -- a walk stops before an empty slot
 abbrev Open : (Slot → Option ℕ) → Walked → Type 0
@@ -34,45 +34,45 @@ walk_in_open : (h : Slot → Option ℕ) (t : Slot) (ls : List ℕ) → Open h (
 walk_in_open h t ls = on_cases (Open h) (h t) (stopped t (length ls)) (λ w. walk h w ls) (λ q. q) (λ w q. walk_open h w ls)
 
 module _ (L : Loaded) (s : State) (g : Good L s) where
-  sides-kept : (p q : Walked) → Open s.held p → Open s.held q → Kept s (effect (sides p q) s) (λ x. x)
-  sides-kept (ended a) (ended b) u v = go (eqb a b)
+  sides_kept : (p q : Walked) → Open s.held p → Open s.held q → Kept s (effect (sides p q) s) (λ x. x)
+  sides_kept (ended a) (ended b) u v = go (eqb a b)
     where
       go : (t : Bool) → Kept s (effect (cond t closed (merges a b)) s) (λ x. x)
       go true = kept_none s
-      go false = merge-kept s g.sound.lower a b
-  sides-kept (ended a) (stopped t zero) u v = fill-kept s t v a
-  sides-kept (ended a) (stopped t (suc n)) u v = kept_none s
-  sides-kept (stopped t zero) (ended b) u v = fill-kept s t u b
-  sides-kept (stopped t (suc n)) (ended b) u v = kept_none s
-  sides-kept (stopped t n) (stopped r m) u v = kept_none s
+      go false = merge_kept s g.sound.lower a b
+  sides_kept (ended a) (stopped t zero) u v = fill_kept s t v a
+  sides_kept (ended a) (stopped t (suc n)) u v = kept_none s
+  sides_kept (stopped t zero) (ended b) u v = fill_kept s t u b
+  sides_kept (stopped t (suc n)) (ended b) u v = kept_none s
+  sides_kept (stopped t n) (stopped r m) u v = kept_none s
 
-  sweep-kept : (b : Bool) → waits s.waiting ≡ b → Kept s (unless (cond b (Some refusal.Waiting) None) s (swept s)) (λ x. cond b x (rank s.forward (end s x)))
-  sweep-kept true e = kept_none s
-  sweep-kept false e = swept_kept L s g (none_waits s.waiting e)
+  sweep_kept : (b : Bool) → waits s.waiting ≡ b → Kept s (unless (cond b (Some refusal.Waiting) None) s (swept s)) (λ x. cond b x (rank s.forward (end s x)))
+  sweep_kept true e = kept_none s
+  sweep_kept false e = swept_kept L s g (none_waits s.waiting e)
 
-  apply-kept : (o : Op) → Kept s (apply L o s) (op_renames o s)
-  apply-kept (land k r) = unless_cases (λ z. Kept s z (λ x. x)) (land_fault L s k r) s (born (L.kind_map k) (landing k r) s) (kept_none s)
-      (λ e. born-kept s (landing k r) (land-tests L s k r e).2 (L.kind_map k))
-  apply-kept (define e l) = unless_cases (λ z. Kept s z (λ x. x)) (define_fault L s e l) s (born (L.to l) (cell e l) s) (kept_none s)
-      (λ h. born-kept s (cell e l) (define-tests L s e l h).3 (L.to l))
-  apply-kept (check_rule e i) = unless_cases (λ z. Kept s z (λ x. x)) (rule_fault L s e i) s (effect (rule_effect L s e i) s) (kept_none s)
-      (λ h. sides-kept (walk s.held e (L.left i)) (walk s.held e (L.right i)) (walk_open s.held e (L.left i)) (walk_open s.held e (L.right i)))
-  apply-kept (check_link i r) =
+  apply_kept : (o : Op) → Kept s (apply L o s) (op_renames o s)
+  apply_kept (land k r) = unless_cases (λ z. Kept s z (λ x. x)) (land_fault L s k r) s (born (L.kind_map k) (landing k r) s) (kept_none s)
+      (λ e. born_kept s (landing k r) (land_tests L s k r e).2 (L.kind_map k))
+  apply_kept (define e l) = unless_cases (λ z. Kept s z (λ x. x)) (define_fault L s e l) s (born (L.to l) (cell e l) s) (kept_none s)
+      (λ h. born_kept s (cell e l) (define_tests L s e l h).3 (L.to l))
+  apply_kept (check_rule e i) = unless_cases (λ z. Kept s z (λ x. x)) (rule_fault L s e i) s (effect (rule_effect L s e i) s) (kept_none s)
+      (λ h. sides_kept (walk s.held e (L.left i)) (walk s.held e (L.right i)) (walk_open s.held e (L.left i)) (walk_open s.held e (L.right i)))
+  apply_kept (check_link i r) =
       let t : Slot = landing (L.source_to i) (L.lead i r) in
       let f : Slot = landing (L.source_from i) r in
       unless_cases (λ z. Kept s z (λ x. x)) (link_fault L s i r) s (effect (link_effect L s i r) s) (kept_none s)
-      (λ h. sides-kept (walk_in s.held t []) (walk_in s.held f (L.link_map i)) (walk_in_open s.held t []) (walk_in_open s.held f (L.link_map i)))
-  apply-kept settle = unless_cases (λ z. Kept s z (λ x. x)) (settle_fault s) s (settled L s) (kept_none s) (λ h. (settled_moved L s g.sound).1.kept)
-  apply-kept sweep = sweep-kept (waits s.waiting) refl
+      (λ h. sides_kept (walk_in s.held t []) (walk_in s.held f (L.link_map i)) (walk_in_open s.held t []) (walk_in_open s.held f (L.link_map i)))
+  apply_kept settle = unless_cases (λ z. Kept s z (λ x. x)) (settle_fault s) s (settled L s) (kept_none s) (λ h. (settled_moved L s g.sound).1.kept)
+  apply_kept sweep = sweep_kept (waits s.waiting) refl
 
-  todo-kept : (budget done : ℕ) (t : Todo) → Kept s (carry_out L s budget done t).state (todo_renames t s)
-  todo-kept budget done (does o) = apply-kept o
-  todo-kept budget done (ends e) = kept_none s
+  todo_kept : (budget done : ℕ) (t : Todo) → Kept s (carry_out L s budget done t).state (todo_renames t s)
+  todo_kept budget done (does o) = apply_kept o
+  todo_kept budget done (ends e) = kept_none s
 
   call_kept : (c : Call) → Kept s (call L c s) (call_renames L c s)
   unfolding step
-  call_kept (plain o) = apply-kept o
-  call_kept (stepping budget done) = todo-kept budget done (plan L s (next L s) budget)
+  call_kept (plain o) = apply_kept o
+  call_kept (stepping budget done) = todo_kept budget done (plan L s (next L s) budget)
 
 calls_kept : (L : Loaded) → Accepted L → (cs : List Call) (s : State) → Good L s → Kept s (calls L cs s) (calls_rename L cs s)
 unfolding calls calls_rename
@@ -92,16 +92,16 @@ not_lost : (L : Loaded) (s z : State) (f : ℕ → ℕ) → Good L z → Kept s 
 not_lost L s z f g k = record {
   numbered = k.numbered;
   together = k.together;
-  landings = in-landing;
+  landings = in_landing;
   cells = in_cell;
-  quiet_landings = λ none i r w e. let m = in-landing i r w e in m.1 ∙ ap Some (living none m.0 (f w) (g.sound.used (landing i r) m.0 m.1).0 m.2);
+  quiet_landings = λ none i r w e. let m = in_landing i r w e in m.1 ∙ ap Some (living none m.0 (f w) (g.sound.used (landing i r) m.0 m.1).0 m.2);
   quiet_cells = λ none e l w h.
       let m = in_cell e l w h in
       ap (λ x. z.held (cell x l)) (sym (living none m.0 (f e) m.2 m.3)) ∙ (m.4 ∙ ap Some (living none m.1 (f w) (g.sound.used (cell m.0 l) m.1 m.4).0 m.5));
 }
   where
-    in-landing : (i r w : ℕ) → s.held (landing i r) ≡ Some w → (v : ℕ) × (z.held (landing i r) ≡ Some v) × (end z v ≡ end z (f w))
-    in-landing i r w e = let m = k.found (landing i r) w e in (m.1, ap z.held (sym (at_landing z m.0 i r m.3)) ∙ m.2, m.4)
+    in_landing : (i r w : ℕ) → s.held (landing i r) ≡ Some w → (v : ℕ) × (z.held (landing i r) ≡ Some v) × (end z v ≡ end z (f w))
+    in_landing i r w e = let m = k.found (landing i r) w e in (m.1, ap z.held (sym (at_landing z m.0 i r m.3)) ∙ m.2, m.4)
 
     in_cell : (e l w : ℕ) → s.held (cell e l) ≡ Some w → (d : ℕ) × (v : ℕ) × InUse z d × (end z d ≡ end z (f e)) × (z.held (cell d l) ≡ Some v) × (end z v ≡ end z (f w))
     in_cell e l w h =
@@ -111,7 +111,7 @@ not_lost L s z f g k = record {
         (a.0, m.1, (g.sound.used (cell a.0 l) m.1 held).1.0, a.2, held, m.4)
 
     living : z.waiting ≡ [] → (x y : ℕ) → InUse z x → end z x ≡ end z y → x ≡ end z y
-    living none x y u q = sym (use-end L z g none x u) ∙ q
+    living none x y u q = sym (use_end L z g none x u) ∙ q
 
 pub nothing_lost : NothingLost
 nothing_lost L acc cs c =

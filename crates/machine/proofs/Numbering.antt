@@ -9,11 +9,11 @@ use Rattle.machine.specs.Sound.{Mem, InUse, Owner, Sound, Reach}
 use Rattle.machine.specs.Shift.{calls}
 use Rattle.machine.specs.Sequence.{member, nth, met, met_in, of_kind, of_landings, of_cells, visit, grown, sequence, Numbers, AllNumbered}
 use Rattle.machine.proofs.Wide.{Good}
-use Rattle.machine.proofs.Base.{chase-fix, end-forward}
+use Rattle.machine.proofs.Base.{chase_fix, end_forward}
 use Rattle.machine.proofs.Closed.{Closed, Before, closed_all}
 use Rattle.machine.proofs.Fill.{some_same, some_none}
 use Rattle.machine.proofs.Check.{on_cases}
-use Rattle.machine.proofs.Sweep.{use-lives}
+use Rattle.machine.proofs.Sweep.{use_lives}
 use Rattle.machine.proofs.Runs.{calls_good, start_good}
 
 abbrev pub In : ℕ → List ℕ → Type 0
@@ -156,139 +156,139 @@ module _ (L : Loaded) (s : State) (g : Good L s) (quiet : s.waiting ≡ []) wher
   abbrev pub Lives : ℕ → Type 0
   Lives e = (e < s.given) × (s.forward e ≡ e)
 
-  pub held-lives : (t : Slot) (w : ℕ) → s.held t ≡ Some w → Lives w
-  held-lives t w e = let u = (g.sound.used t w e).0 in (u.below, use-lives L s g quiet w u)
+  pub held_lives : (t : Slot) (w : ℕ) → s.held t ≡ Some w → Lives w
+  held_lives t w e = let u = (g.sound.used t w e).0 in (u.below, use_lives L s g quiet w u)
 
-  met-in-longer : (t : Slot) (xs : List ℕ) → Longer xs (met_in (s.held t) xs)
-  met-in-longer t xs = on_cases (Longer xs) (s.held t) xs (λ w. met w xs) (λ e. longer_none xs) (λ w e. met_longer w xs)
+  met_in_longer : (t : Slot) (xs : List ℕ) → Longer xs (met_in (s.held t) xs)
+  met_in_longer t xs = on_cases (Longer xs) (s.held t) xs (λ w. met w xs) (λ e. longer_none xs) (λ w e. met_longer w xs)
 
-  met-in-fine : (t : Slot) (xs : List ℕ) → Fine Lives xs → Fine Lives (met_in (s.held t) xs)
-  met-in-fine t xs f = on_cases (Fine Lives) (s.held t) xs (λ w. met w xs) (λ e. f) (λ w e. met_fine Lives w xs (held-lives t w e) f)
+  met_in_fine : (t : Slot) (xs : List ℕ) → Fine Lives xs → Fine Lives (met_in (s.held t) xs)
+  met_in_fine t xs f = on_cases (Fine Lives) (s.held t) xs (λ w. met w xs) (λ e. f) (λ w e. met_fine Lives w xs (held_lives t w e) f)
 
-  met-in-has : (t : Slot) (xs : List ℕ) (w : ℕ) → s.held t ≡ Some w → In w (met_in (s.held t) xs)
-  met-in-has t xs w e = subst (λ o. In w (met_in o xs)) (sym e) (met_has w xs)
+  met_in_has : (t : Slot) (xs : List ℕ) (w : ℕ) → s.held t ≡ Some w → In w (met_in (s.held t) xs)
+  met_in_has t xs w e = subst (λ o. In w (met_in o xs)) (sym e) (met_has w xs)
 
-  pub cells-longer : (e l : ℕ) (xs : List ℕ) → Longer xs (of_cells s e l xs)
+  pub cells_longer : (e l : ℕ) (xs : List ℕ) → Longer xs (of_cells s e l xs)
   unfolding of_cells
-  cells-longer e zero xs = longer_none xs
-  cells-longer e (suc l) xs = longer_then xs (of_cells s e l xs) (met_in (s.held (cell e l)) (of_cells s e l xs)) (cells-longer e l xs) (met-in-longer (cell e l) (of_cells s e l xs))
+  cells_longer e zero xs = longer_none xs
+  cells_longer e (suc l) xs = longer_then xs (of_cells s e l xs) (met_in (s.held (cell e l)) (of_cells s e l xs)) (cells_longer e l xs) (met_in_longer (cell e l) (of_cells s e l xs))
 
-  pub cells-fine : (e l : ℕ) (xs : List ℕ) → Fine Lives xs → Fine Lives (of_cells s e l xs)
+  pub cells_fine : (e l : ℕ) (xs : List ℕ) → Fine Lives xs → Fine Lives (of_cells s e l xs)
   unfolding of_cells
-  cells-fine e zero xs f = f
-  cells-fine e (suc l) xs f = met-in-fine (cell e l) (of_cells s e l xs) (cells-fine e l xs f)
+  cells_fine e zero xs f = f
+  cells_fine e (suc l) xs f = met_in_fine (cell e l) (of_cells s e l xs) (cells_fine e l xs f)
 
-  pub cells-has : (e l : ℕ) (xs : List ℕ) (k w : ℕ) → k < l → s.held (cell e k) ≡ Some w → In w (of_cells s e l xs)
+  pub cells_has : (e l : ℕ) (xs : List ℕ) (k w : ℕ) → k < l → s.held (cell e k) ≡ Some w → In w (of_cells s e l xs)
   unfolding of_cells
-  cells-has e zero xs k w h q = absurd (omega (arith, h))
-  cells-has e (suc l) xs k w h q = elim (cases_eq k l) [
-    | inl z ↦ met-in-has (cell e l) (of_cells s e l xs) w (ap (λ j. s.held (cell e j)) (sym z) ∙ q)
-    | inr z ↦ longer_in (of_cells s e l xs) (met_in (s.held (cell e l)) (of_cells s e l xs)) (met-in-longer (cell e l) (of_cells s e l xs)) w (cells-has e l xs k w (omega (arith, h, z)) q)
+  cells_has e zero xs k w h q = absurd (omega (arith, h))
+  cells_has e (suc l) xs k w h q = elim (cases_eq k l) [
+    | inl z ↦ met_in_has (cell e l) (of_cells s e l xs) w (ap (λ j. s.held (cell e j)) (sym z) ∙ q)
+    | inr z ↦ longer_in (of_cells s e l xs) (met_in (s.held (cell e l)) (of_cells s e l xs)) (met_in_longer (cell e l) (of_cells s e l xs)) w (cells_has e l xs k w (omega (arith, h, z)) q)
   ]
 
-  kind-longer : (k r : ℕ) (xs : List ℕ) → Longer xs (of_kind s k r xs)
+  kind_longer : (k r : ℕ) (xs : List ℕ) → Longer xs (of_kind s k r xs)
   unfolding of_kind
-  kind-longer k zero xs = longer_none xs
-  kind-longer k (suc r) xs = longer_then xs (of_kind s k r xs) (met_in (s.held (landing k r)) (of_kind s k r xs)) (kind-longer k r xs) (met-in-longer (landing k r) (of_kind s k r xs))
+  kind_longer k zero xs = longer_none xs
+  kind_longer k (suc r) xs = longer_then xs (of_kind s k r xs) (met_in (s.held (landing k r)) (of_kind s k r xs)) (kind_longer k r xs) (met_in_longer (landing k r) (of_kind s k r xs))
 
-  pub kind-fine : (k r : ℕ) (xs : List ℕ) → Fine Lives xs → Fine Lives (of_kind s k r xs)
+  pub kind_fine : (k r : ℕ) (xs : List ℕ) → Fine Lives xs → Fine Lives (of_kind s k r xs)
   unfolding of_kind
-  kind-fine k zero xs f = f
-  kind-fine k (suc r) xs f = met-in-fine (landing k r) (of_kind s k r xs) (kind-fine k r xs f)
+  kind_fine k zero xs f = f
+  kind_fine k (suc r) xs f = met_in_fine (landing k r) (of_kind s k r xs) (kind_fine k r xs f)
 
-  kind-has : (k r : ℕ) (xs : List ℕ) (q w : ℕ) → q < r → s.held (landing k q) ≡ Some w → In w (of_kind s k r xs)
+  kind_has : (k r : ℕ) (xs : List ℕ) (q w : ℕ) → q < r → s.held (landing k q) ≡ Some w → In w (of_kind s k r xs)
   unfolding of_kind
-  kind-has k zero xs q w h e = absurd (omega (arith, h))
-  kind-has k (suc r) xs q w h e = elim (cases_eq q r) [
-    | inl z ↦ met-in-has (landing k r) (of_kind s k r xs) w (ap (λ j. s.held (landing k j)) (sym z) ∙ e)
-    | inr z ↦ longer_in (of_kind s k r xs) (met_in (s.held (landing k r)) (of_kind s k r xs)) (met-in-longer (landing k r) (of_kind s k r xs)) w (kind-has k r xs q w (omega (arith, h, z)) e)
+  kind_has k zero xs q w h e = absurd (omega (arith, h))
+  kind_has k (suc r) xs q w h e = elim (cases_eq q r) [
+    | inl z ↦ met_in_has (landing k r) (of_kind s k r xs) w (ap (λ j. s.held (landing k j)) (sym z) ∙ e)
+    | inr z ↦ longer_in (of_kind s k r xs) (met_in (s.held (landing k r)) (of_kind s k r xs)) (met_in_longer (landing k r) (of_kind s k r xs)) w (kind_has k r xs q w (omega (arith, h, z)) e)
   ]
 
-  pub landings-fine : (n : ℕ) → Fine Lives (of_landings L s n)
+  pub landings_fine : (n : ℕ) → Fine Lives (of_landings L s n)
   unfolding of_landings nth
-  landings-fine zero = record { once = λ i j e p q. absurd (some_none e None p refl); all = λ i e p. absurd (some_none e None p refl) }
-  landings-fine (suc k) = kind-fine k (L.count k) (of_landings L s k) (landings-fine k)
+  landings_fine zero = record { once = λ i j e p q. absurd (some_none e None p refl); all = λ i e p. absurd (some_none e None p refl) }
+  landings_fine (suc k) = kind_fine k (L.count k) (of_landings L s k) (landings_fine k)
 
-  pub landings-has : (n k r w : ℕ) → k < n → r < L.count k → s.held (landing k r) ≡ Some w → In w (of_landings L s n)
+  pub landings_has : (n k r w : ℕ) → k < n → r < L.count k → s.held (landing k r) ≡ Some w → In w (of_landings L s n)
   unfolding of_landings
-  landings-has zero k r w hk hr e = absurd (omega (arith, hk))
-  landings-has (suc n) k r w hk hr e = elim (cases_eq k n) [
-    | inl z ↦ kind-has n (L.count n) (of_landings L s n) r w (subst (λ j. r < L.count j) z hr) (ap (λ j. s.held (landing j r)) (sym z) ∙ e)
-    | inr z ↦ longer_in (of_landings L s n) (of_kind s n (L.count n) (of_landings L s n)) (kind-longer n (L.count n) (of_landings L s n)) w (landings-has n k r w (omega (arith, hk, z)) hr e)
+  landings_has zero k r w hk hr e = absurd (omega (arith, hk))
+  landings_has (suc n) k r w hk hr e = elim (cases_eq k n) [
+    | inl z ↦ kind_has n (L.count n) (of_landings L s n) r w (subst (λ j. r < L.count j) z hr) (ap (λ j. s.held (landing j r)) (sym z) ∙ e)
+    | inr z ↦ longer_in (of_landings L s n) (of_kind s n (L.count n) (of_landings L s n)) (kind_longer n (L.count n) (of_landings L s n)) w (landings_has n k r w (omega (arith, hk, z)) hr e)
   ]
 
-  pub visit-longer : (n : ℕ) (xs : List ℕ) → Longer xs (visit L s n xs)
-  visit-longer n xs = on_cases (Longer xs) (nth xs n) xs (λ e. of_cells s e L.links xs) (λ q. longer_none xs) (λ e q. cells-longer e L.links xs)
+  pub visit_longer : (n : ℕ) (xs : List ℕ) → Longer xs (visit L s n xs)
+  visit_longer n xs = on_cases (Longer xs) (nth xs n) xs (λ e. of_cells s e L.links xs) (λ q. longer_none xs) (λ e q. cells_longer e L.links xs)
 
-  visit-fine : (n : ℕ) (xs : List ℕ) → Fine Lives xs → Fine Lives (visit L s n xs)
-  visit-fine n xs f = on_cases (Fine Lives) (nth xs n) xs (λ e. of_cells s e L.links xs) (λ q. f) (λ e q. cells-fine e L.links xs f)
+  visit_fine : (n : ℕ) (xs : List ℕ) → Fine Lives xs → Fine Lives (visit L s n xs)
+  visit_fine n xs f = on_cases (Fine Lives) (nth xs n) xs (λ e. of_cells s e L.links xs) (λ q. f) (λ e q. cells_fine e L.links xs f)
 
-  pub grown-fine : (n : ℕ) → Fine Lives (grown L s n)
+  pub grown_fine : (n : ℕ) → Fine Lives (grown L s n)
   unfolding grown
-  grown-fine zero = landings-fine L.source_kinds
-  grown-fine (suc n) = visit-fine n (grown L s n) (grown-fine n)
+  grown_fine zero = landings_fine L.source_kinds
+  grown_fine (suc n) = visit_fine n (grown L s n) (grown_fine n)
 
-  pub grown-longer : (n : ℕ) → Longer (of_landings L s L.source_kinds) (grown L s n)
+  pub grown_longer : (n : ℕ) → Longer (of_landings L s L.source_kinds) (grown L s n)
   unfolding grown
-  grown-longer zero = longer_none (of_landings L s L.source_kinds)
-  grown-longer (suc n) = longer_then (of_landings L s L.source_kinds) (grown L s n) (visit L s n (grown L s n)) (grown-longer n) (visit-longer n (grown L s n))
+  grown_longer zero = longer_none (of_landings L s L.source_kinds)
+  grown_longer (suc n) = longer_then (of_landings L s L.source_kinds) (grown L s n) (visit L s n (grown L s n)) (grown_longer n) (visit_longer n (grown L s n))
 
   -- the cells of the first n of the sequence are in it
   abbrev pub Visited : ℕ → List ℕ → Type 0
   Visited n xs = (i e : ℕ) → i < n → nth xs i ≡ Some e → (k w : ℕ) → k < L.links → s.held (cell e k) ≡ Some w → In w xs
 
-  visit-visited : (n : ℕ) (xs : List ℕ) → Visited n xs → Visited (suc n) (visit L s n xs)
-  visit-visited n xs v = on_cases (Visited (suc n)) (nth xs n) xs (λ e. of_cells s e L.links xs)
+  visit_visited : (n : ℕ) (xs : List ℕ) → Visited n xs → Visited (suc n) (visit L s n xs)
+  visit_visited n xs v = on_cases (Visited (suc n)) (nth xs n) xs (λ e. of_cells s e L.links xs)
       (λ none i e h q k w hk held. elim (cases_eq i n) [
         | inl z ↦ absurd (some_none e (nth xs n) (ap (nth xs) (sym z) ∙ q) none)
         | inr z ↦ v i e (omega (arith, h, z)) q k w hk held
       ])
       (λ d some i e h q k w hk held. elim (cases_eq i n) [
         | inl z ↦ (
-            let now = (cells-longer d L.links xs).keeps n d some in
+            let now = (cells_longer d L.links xs).keeps n d some in
             let same : d ≡ e = some_same d e (nth (of_cells s d L.links xs) n) now (ap (nth (of_cells s d L.links xs)) (sym z) ∙ q) in
-            cells-has d L.links xs k w hk (ap (λ y. s.held (cell y k)) same ∙ held))
+            cells_has d L.links xs k w hk (ap (λ y. s.held (cell y k)) same ∙ held))
         | inr z ↦ (
             let old = nth_before xs i n d (omega (arith, h, z)) some in
-            let now = (cells-longer d L.links xs).keeps i old.0 old.1 in
+            let now = (cells_longer d L.links xs).keeps i old.0 old.1 in
             let same : old.0 ≡ e = some_same old.0 e (nth (of_cells s d L.links xs) i) now q in
-            longer_in xs (of_cells s d L.links xs) (cells-longer d L.links xs) w (v i e (omega (arith, h, z)) (old.1 ∙ ap Some same) k w hk held))
+            longer_in xs (of_cells s d L.links xs) (cells_longer d L.links xs) w (v i e (omega (arith, h, z)) (old.1 ∙ ap Some same) k w hk held))
       ])
 
-  pub grown-visited : (n : ℕ) → Visited n (grown L s n)
+  pub grown_visited : (n : ℕ) → Visited n (grown L s n)
   unfolding grown
-  grown-visited zero = λ i e h. absurd (omega (arith, h))
-  grown-visited (suc n) = visit-visited n (grown L s n) (grown-visited n)
+  grown_visited zero = λ i e h. absurd (omega (arith, h))
+  grown_visited (suc n) = visit_visited n (grown L s n) (grown_visited n)
 
   abbrev xs : List ℕ
   xs = sequence L s
 
-  ends-in : Closed (λ e. In (end s e) xs) s
-  ends-in = record {
+  ends_in : Closed (λ e. In (end s e) xs) s
+  ends_in = record {
     fits = fit;
-    goes = λ x q. subst (λ y. In y xs) (sym (end-forward s.forward g.sound.lower x)) q;
-    comes = λ x q. subst (λ y. In y xs) (end-forward s.forward g.sound.lower x) q;
+    goes = λ x q. subst (λ y. In y xs) (sym (end_forward s.forward g.sound.lower x)) q;
+    comes = λ x q. subst (λ y. In y xs) (end_forward s.forward g.sound.lower x) q;
   }
     where
       stays : (w : ℕ) → Lives w → end s w ≡ w
-      stays w h = chase-fix s.forward w w h.1
+      stays w h = chase_fix s.forward w w h.1
 
       fit : (t : Slot) (w : ℕ) → s.held t ≡ Some w → Before (λ e. In (end s e) xs) t → In (end s w) xs
       fit (landing k r) w e b =
           let o = (g.sound.used (landing k r) w e).1 in
-          subst (λ y. In y xs) (sym (stays w (held-lives (landing k r) w e))) (longer_in (of_landings L s L.source_kinds) xs (grown-longer s.given) w (landings-has L.source_kinds k r w o.0 o.1 e))
+          subst (λ y. In y xs) (sym (stays w (held_lives (landing k r) w e))) (longer_in (of_landings L s L.source_kinds) xs (grown_longer s.given) w (landings_has L.source_kinds k r w o.0 o.1 e))
       fit (cell d l) w e b =
           let o = (g.sound.used (cell d l) w e).1 in
-          let h = use-lives L s g quiet d o.0 in
-          let p : In d xs = subst (λ y. In y xs) (chase-fix s.forward d d h) b in
-          let short = fine_short s.given Lives xs (λ y q. q.0) (grown-fine s.given) in
-          subst (λ y. In y xs) (sym (stays w (held-lives (cell d l) w e))) (grown-visited s.given p.0 d (omega (arith, nth_below xs p.0 d p.1, short)) p.1 l w o.1 e)
+          let h = use_lives L s g quiet d o.0 in
+          let p : In d xs = subst (λ y. In y xs) (chase_fix s.forward d d h) b in
+          let short = fine_short s.given Lives xs (λ y q. q.0) (grown_fine s.given) in
+          subst (λ y. In y xs) (sym (stays w (held_lives (cell d l) w e))) (grown_visited s.given p.0 d (omega (arith, nth_below xs p.0 d p.1, short)) p.1 l w o.1 e)
 
   pub numbers : Numbers L s
   numbers = record {
-    each = λ e h live. subst (λ y. In y xs) (chase-fix s.forward e e live) (closed_all ends-in (g.reached e h));
-    once = (grown-fine s.given).once;
-    only = (grown-fine s.given).all;
+    each = λ e h live. subst (λ y. In y xs) (chase_fix s.forward e e live) (closed_all ends_in (g.reached e h));
+    once = (grown_fine s.given).once;
+    only = (grown_fine s.given).all;
   }
 
 pub all_numbered : AllNumbered

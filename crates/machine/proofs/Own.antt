@@ -9,8 +9,8 @@ use Rattle.machine.specs.Readings.{Accepted, along, worth}
 use Rattle.machine.specs.Sound.{InUse, Sound, Kinds}
 use Rattle.machine.specs.Complete.{Complete, Keeps}
 use Rattle.machine.proofs.Wide.{Receiver, Placing, Reading, Good}
-use Rattle.machine.proofs.Base.{chase-fix, chase-keeps, chase-lives, chase-lower, end-forward}
-use Rattle.machine.proofs.Sweep.{use-lives}
+use Rattle.machine.proofs.Base.{chase_fix, chase_keeps, chase_lives, chase_lower, end_forward}
+use Rattle.machine.proofs.Sweep.{use_lives}
 use Rattle.machine.proofs.Finished.{complete_keeps}
 use Rattle.machine.proofs.Capacity.{Whole}
 
@@ -43,8 +43,8 @@ walk_along h (l ∷ ls) e a q = go (h (cell e l)) refl (λ w. walk_along h ls w 
     go (Some w) p f z = ap (λ o. along (λ l x. content (h (cell x l))) (content o) ls) p ∙ f w z
 
 module _ (L : Loaded) (acc : Accepted L) (s : State) (b : Whole L s) where
-  pub held-living : (t : Slot) (w : ℕ) → s.held t ≡ Some w → Living s w
-  held-living t w e = let u = (b.good.sound.used t w e).0 in (u.below, use-lives L s b.good b.complete.quiet w u)
+  pub held_living : (t : Slot) (w : ℕ) → s.held t ≡ Some w → Living s w
+  held_living t w e = let u = (b.good.sound.used t w e).0 in (u.below, use_lives L s b.good b.complete.quiet w u)
 
   abbrev pub own : Receiver L
   own = record {
@@ -53,40 +53,40 @@ module _ (L : Loaded) (acc : Accepted L) (s : State) (b : Whole L s) where
     inside = λ l x hl h.
         let p = has_parts s (L.from l) x h in
         let w = b.complete.defined x l p.0.0 p.0.1 hl p.1 in
-        subst (λ o. has_living s (L.to l) (content o) ≡ true) (sym w.1) (parts_has s (L.to l) w.0 (held-living (cell x l) w.0 w.1) (b.kinds.fit (cell x l) w.0 w.1).0);
+        subst (λ o. has_living s (L.to l) (content o) ≡ true) (sym w.1) (parts_has s (L.to l) w.0 (held_living (cell x l) w.0 w.1) (b.kinds.fit (cell x l) w.0 w.1).0);
     keeps = λ i x hi h.
         let p = has_parts s (L.first i) x h in
         let a = (complete_keeps L s b.complete).rules x i p.0.0 p.0.1 hi p.1 in
         walk_along s.held (L.left i) x a.0 a.1 ∙ sym (walk_along s.held (L.right i) x a.0 a.2);
   }
 
-  abbrev pub own-placing : Placing L own
-  own-placing = record {
+  abbrev pub own_placing : Placing L own
+  own_placing = record {
     at = λ k r. content (s.held (landing k r));
     counted = λ k r hk hr.
         let w = b.complete.landed k r hk hr in
-        subst (λ o. has_living s (L.kind_map k) (content o) ≡ true) (sym w.1) (parts_has s (L.kind_map k) w.0 (held-living (landing k r) w.0 w.1) (b.kinds.fit (landing k r) w.0 w.1).0);
+        subst (λ o. has_living s (L.kind_map k) (content o) ≡ true) (sym w.1) (parts_has s (L.kind_map k) w.0 (held_living (landing k r) w.0 w.1) (b.kinds.fit (landing k r) w.0 w.1).0);
     in_step = λ i r hi hr.
         let x = b.complete.landed (L.source_from i) r (acc.from_in i hi) hr in
         let y = b.complete.landed (L.source_to i) (L.lead i r) (acc.to_in i hi) (acc.lead_in i r hi hr) in
         ap (λ o. along own.lead (content o) (L.link_map i)) x.1 ∙ (walk_along s.held (L.link_map i) x.0 y.0 ((complete_keeps L s b.complete).steps i r hi hr x.0 y.0 x.1 y.1) ∙ sym (ap content y.1));
   }
 
-  pub end-living : (e : ℕ) → e < s.given → Living s (end s e)
-  end-living e h = let ok = b.good.sound in (omega (arith, chase-lower s.forward ok.lower e e, h), chase-lives s.forward ok.lower e e (omega arith))
+  pub end_living : (e : ℕ) → e < s.given → Living s (end s e)
+  end_living e h = let ok = b.good.sound in (omega (arith, chase_lower s.forward ok.lower e e, h), chase_lives s.forward ok.lower e e (omega arith))
 
-  pub own-reading : Reading L own own-placing s (end s)
-  own-reading = record {
-    counted = λ e h. parts_has s (s.kind e) (end s e) (end-living e h) (chase-keeps s.forward (λ y. s.kind y ≡ s.kind e) (λ y q. b.kinds.kept y ∙ q) e e refl);
+  pub own_reading : Reading L own own_placing s (end s)
+  own_reading = record {
+    counted = λ e h. parts_has s (s.kind e) (end s e) (end_living e h) (chase_keeps s.forward (λ y. s.kind y ≡ s.kind e) (λ y q. b.kinds.kept y ∙ q) e e refl);
     agrees = agree;
-    forwards = λ e. end-forward s.forward b.good.sound.lower e;
+    forwards = λ e. end_forward s.forward b.good.sound.lower e;
   }
     where
       stays : (w : ℕ) → Living s w → end s w ≡ w
-      stays w h = chase-fix s.forward w w h.1
+      stays w h = chase_fix s.forward w w h.1
 
-      agree : (t : Slot) (w : ℕ) → s.held t ≡ Some w → end s w ≡ worth own.lead own-placing.at (end s) t
+      agree : (t : Slot) (w : ℕ) → s.held t ≡ Some w → end s w ≡ worth own.lead own_placing.at (end s) t
       agree (cell e l) w h =
           let u = (b.good.sound.used (cell e l) w h).1.0 in
-          stays w (held-living (cell e l) w h) ∙ sym (ap (λ y. content (s.held (cell y l))) (stays e (u.below, use-lives L s b.good b.complete.quiet e u)) ∙ ap content h)
-      agree (landing k r) w h = stays w (held-living (landing k r) w h) ∙ sym (ap content h)
+          stays w (held_living (cell e l) w h) ∙ sym (ap (λ y. content (s.held (cell y l))) (stays e (u.below, use_lives L s b.good b.complete.quiet e u)) ∙ ap content h)
+      agree (landing k r) w h = stays w (held_living (landing k r) w h) ∙ sym (ap content h)

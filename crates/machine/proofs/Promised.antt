@@ -12,7 +12,7 @@ use Rattle.machine.specs.Promise.{Finishes, Promise}
 use Rattle.machine.proofs.Runs.{one_reading_of_calls}
 use Rattle.machine.proofs.Finished.{complete_keeps}
 use Rattle.machine.proofs.Written.{one_finish, finish_accepts}
-use Rattle.machine.proofs.Loads.{accepted, taken-from, same_load}
+use Rattle.machine.proofs.Loads.{accepted, taken_from, same_load}
 
 -- words that were put stand at the front of the output
 room_told : (b : Bool) (ws out : List ℕ) (n : ℕ) → let r : Result ℕ Refusal × List ℕ = cond b (Ok (length ws), ws ++ drop (length ws) out) (Err refusal.Memory, out) in r.0 ≡ Ok n → take n r.1 ≡ ws
@@ -32,7 +32,7 @@ promise work ws m L e cs =
     let acc = accepted work ws m L e in
     let done = λ (vs : List ℕ) (f : Finishes L (calls L cs start) vs). (finish_accepts L acc cs).0 (finishes_told L (calls L cs start) vs f).0 in
     record {
-      source = taken-from work ws m L e;
+      source = taken_from work ws m L e;
       one_reading = one_reading_of_calls L acc cs;
       finished = λ vs f. (let c = done vs f in (record { landings = c.landed; cells = c.defined }, complete_keeps L (calls L cs start) c));
       numbered = λ vs f. (finishes_told L (calls L cs start) vs f).1;

@@ -14,10 +14,10 @@ use Rattle.machine.specs.Sound.{Mem, InUse, Owner, Sound, Reach, Kinds}
 use Rattle.machine.specs.Shift.{Todo, does, ends, carry_out, plan, next, step, Call, plain, stepping, call, calls, AllSound, AllReached, AllKinds}
 use Rattle.machine.proofs.Wide.{Receiver, Placing, Reading, Good}
 use Rattle.machine.proofs.Closed.{one_reading}
-use Rattle.machine.proofs.Check.{rule-good, link-good, land-good, define-good}
+use Rattle.machine.proofs.Check.{rule_good, link_good, land_good, define_good}
 use Rattle.machine.proofs.Settle.{settled_good}
-use Rattle.machine.proofs.Sweep.{swept-good}
-use Rattle.machine.proofs.Typed.{born-kinds, rule-kinds, link-kinds, settled_kinds, swept-kinds}
+use Rattle.machine.proofs.Sweep.{swept_good}
+use Rattle.machine.proofs.Typed.{born_kinds, rule_kinds, link_kinds, settled_kinds, swept_kinds}
 
 pub unless_cases : (P : State → Type 0) (o : Option Refusal) (s z : State) → P s → (o ≡ None → P z) → P (unless o s z)
 unless_cases P None s z a b = b refl
@@ -41,55 +41,55 @@ cond_else true n o e = (refl, e)
 cond_else false n o e = (cc, cc)
 
 module _ (L : Loaded) (s : State) where
-  pub lives-use : (e : ℕ) → lives s e ≡ true → InUse s e
-  lives-use e h = record { below = grind (arith, nat_tests); if_dead = λ d. absurd (d (grind (arith, nat_tests))) }
+  pub lives_use : (e : ℕ) → lives s e ≡ true → InUse s e
+  lives_use e h = record { below = grind (arith, nat_tests); if_dead = λ d. absurd (d (grind (arith, nat_tests))) }
 
-  pub land-tests : (k r : ℕ) → land_fault L s k r ≡ None → (k < L.source_kinds) × (r < L.count k) × (s.held (landing k r) ≡ None)
-  land-tests k r e =
+  pub land_tests : (k r : ℕ) → land_fault L s k r ≡ None → (k < L.source_kinds) × (r < L.count k) × (s.held (landing k r) ≡ None)
+  land_tests k r e =
       let a = cond_some (waits s.waiting) refusal.Waiting _ e in
       let b = cond_else (ltb k L.source_kinds && ltb r (L.count k)) refusal.NotLiving _ a.1 in
       let c = cond_some (filled (s.held (landing k r))) refusal.Filled _ b.1 in
       let t = b.0 in
       ((grind (arith, nat_tests)), (grind (arith, nat_tests)), empty_since (s.held (landing k r)) c.0)
 
-  pub define-tests : (e l : ℕ) → define_fault L s e l ≡ None → InUse s e × (l < L.links) × (s.kind e ≡ L.from l) × (s.held (cell e l) ≡ None)
-  define-tests e l h =
+  pub define_tests : (e l : ℕ) → define_fault L s e l ≡ None → InUse s e × (l < L.links) × (s.kind e ≡ L.from l) × (s.held (cell e l) ≡ None)
+  define_tests e l h =
       let a = cond_some (waits s.waiting) refusal.Waiting _ h in
       let b = cond_else (lives s e && (ltb l L.links && eqb (s.kind e) (L.from l))) refusal.NotLiving _ a.1 in
       let c = cond_some (filled (s.held (cell e l))) refusal.Filled _ b.1 in
       let p = Rattle.std.proofs.lemmas.Bool.and_parts (lives s e) (ltb l L.links && eqb (s.kind e) (L.from l)) b.0 in
       let q = p.1 in
-      (lives-use e p.0, (grind (arith, nat_tests)), (grind (arith, nat_tests)), empty_since (s.held (cell e l)) c.0)
+      (lives_use e p.0, (grind (arith, nat_tests)), (grind (arith, nat_tests)), empty_since (s.held (cell e l)) c.0)
 
-  pub rule-tests : (e i : ℕ) → rule_fault L s e i ≡ None → InUse s e × (i < L.rules) × (s.kind e ≡ L.first i)
-  rule-tests e i h =
+  pub rule_tests : (e i : ℕ) → rule_fault L s e i ≡ None → InUse s e × (i < L.rules) × (s.kind e ≡ L.first i)
+  rule_tests e i h =
       let a = cond_some (waits s.waiting) refusal.Waiting _ h in
       let b = cond_else (lives s e && (ltb i L.rules && eqb (s.kind e) (L.first i))) refusal.NotLiving _ a.1 in
       let p = Rattle.std.proofs.lemmas.Bool.and_parts (lives s e) (ltb i L.rules && eqb (s.kind e) (L.first i)) b.0 in
       let q = p.1 in
-      (lives-use e p.0, (grind (arith, nat_tests)), (grind (arith, nat_tests)))
+      (lives_use e p.0, (grind (arith, nat_tests)), (grind (arith, nat_tests)))
 
-  pub link-tests : (i r : ℕ) → link_fault L s i r ≡ None → (i < L.source_links) × (r < L.count (L.source_from i))
-  link-tests i r h =
+  pub link_tests : (i r : ℕ) → link_fault L s i r ≡ None → (i < L.source_links) × (r < L.count (L.source_from i))
+  link_tests i r h =
       let a = cond_some (waits s.waiting) refusal.Waiting _ h in
       let b = cond_else (ltb i L.source_links && ltb r (L.count (L.source_from i))) refusal.NotLiving _ a.1 in
       let q = b.0 in
       ((grind (arith, nat_tests)), (grind (arith, nat_tests)))
 
-  sweep-tests : sweep_fault s ≡ None → s.waiting ≡ []
-  sweep-tests h = none_waits s.waiting (cond_some (waits s.waiting) refusal.Waiting None h).0
+  sweep_tests : sweep_fault s ≡ None → s.waiting ≡ []
+  sweep_tests h = none_waits s.waiting (cond_some (waits s.waiting) refusal.Waiting None h).0
 
 pub apply_good : (L : Loaded) → Accepted L → (o : Op) (s : State) → Good L s → Good L (apply L o s)
 apply_good L acc (land k r) s g = unless_cases (Good L) (land_fault L s k r) s (born (L.kind_map k) (landing k r) s) g
-    (λ e. let t = land-tests L s k r e in land-good L s g k r t.0 t.1 t.2)
+    (λ e. let t = land_tests L s k r e in land_good L s g k r t.0 t.1 t.2)
 apply_good L acc (define e l) s g = unless_cases (Good L) (define_fault L s e l) s (born (L.to l) (cell e l) s) g
-    (λ h. let t = define-tests L s e l h in define-good L s g e l t.0 t.1 t.2 t.3)
+    (λ h. let t = define_tests L s e l h in define_good L s g e l t.0 t.1 t.2 t.3)
 apply_good L acc (check_rule e i) s g = unless_cases (Good L) (rule_fault L s e i) s (effect (rule_effect L s e i) s) g
-    (λ h. let t = rule-tests L s e i h in rule-good L s g acc e i t.0 t.1 t.2)
+    (λ h. let t = rule_tests L s e i h in rule_good L s g acc e i t.0 t.1 t.2)
 apply_good L acc (check_link i r) s g = unless_cases (Good L) (link_fault L s i r) s (effect (link_effect L s i r) s) g
-    (λ h. let t = link-tests L s i r h in link-good L s g acc i r t.0 t.1)
+    (λ h. let t = link_tests L s i r h in link_good L s g acc i r t.0 t.1)
 apply_good L acc settle s g = unless_cases (Good L) (settle_fault s) s (settled L s) g (λ h. settled_good L s g)
-apply_good L acc sweep s g = unless_cases (Good L) (sweep_fault s) s (swept s) g (λ h. swept-good L s g (sweep-tests L s h))
+apply_good L acc sweep s g = unless_cases (Good L) (sweep_fault s) s (swept s) g (λ h. swept_good L s g (sweep_tests L s h))
 
 pub start_good : (L : Loaded) → Good L start
 start_good L = record {
@@ -123,15 +123,15 @@ all_reached L acc cs = (calls_good L acc cs start (start_good L)).reached
 
 apply_kinds : (L : Loaded) → Accepted L → (o : Op) (s : State) → Good L s → Kinds L s → Kinds L (apply L o s)
 apply_kinds L acc (land k r) s g ks = unless_cases (Kinds L) (land_fault L s k r) s (born (L.kind_map k) (landing k r) s) ks
-    (λ e. let t = land-tests L s k r e in born-kinds L s ks (L.kind_map k) (landing k r) g.sound (t.0, t.1) tt refl)
+    (λ e. let t = land_tests L s k r e in born_kinds L s ks (L.kind_map k) (landing k r) g.sound (t.0, t.1) tt refl)
 apply_kinds L acc (define e l) s g ks = unless_cases (Kinds L) (define_fault L s e l) s (born (L.to l) (cell e l) s) ks
-    (λ h. let t = define-tests L s e l h in born-kinds L s ks (L.to l) (cell e l) g.sound (t.0, t.1) t.2 refl)
+    (λ h. let t = define_tests L s e l h in born_kinds L s ks (L.to l) (cell e l) g.sound (t.0, t.1) t.2 refl)
 apply_kinds L acc (check_rule e i) s g ks = unless_cases (Kinds L) (rule_fault L s e i) s (effect (rule_effect L s e i) s) ks
-    (λ h. let t = rule-tests L s e i h in rule-kinds L s ks acc e i t.1 t.2)
+    (λ h. let t = rule_tests L s e i h in rule_kinds L s ks acc e i t.1 t.2)
 apply_kinds L acc (check_link i r) s g ks = unless_cases (Kinds L) (link_fault L s i r) s (effect (link_effect L s i r) s) ks
-    (λ h. let t = link-tests L s i r h in link-kinds L s ks acc i r t.0)
+    (λ h. let t = link_tests L s i r h in link_kinds L s ks acc i r t.0)
 apply_kinds L acc settle s g ks = unless_cases (Kinds L) (settle_fault s) s (settled L s) ks (λ h. settled_kinds L s ks)
-apply_kinds L acc sweep s g ks = unless_cases (Kinds L) (sweep_fault s) s (swept s) ks (λ h. swept-kinds L s g (sweep-tests L s h) ks)
+apply_kinds L acc sweep s g ks = unless_cases (Kinds L) (sweep_fault s) s (swept s) ks (λ h. swept_kinds L s g (sweep_tests L s h) ks)
 
 todo_kinds : (L : Loaded) → Accepted L → (s : State) (budget done : ℕ) → Good L s → Kinds L s → (t : Todo) → Kinds L (carry_out L s budget done t).state
 todo_kinds L acc s budget done g ks (does o) = apply_kinds L acc o s g ks

@@ -9,9 +9,9 @@ use Rattle.machine.specs.Readings.{worth}
 use Rattle.machine.specs.Sound.{Mem, InUse, Owner, Sound, Reach}
 use Rattle.machine.proofs.Base.{put_cases}
 use Rattle.machine.proofs.Closed.{Closed, Before, closed_all, closed_reach, end_goes, end_comes, end_read}
-use Rattle.machine.proofs.Merge.{end_lives, end_below, end_in_use, merge-sound, merge-closed, merge-joins, merge-read, merge-given, merge-held, merge-dead, merge-front}
-use Rattle.machine.proofs.Fill.{some_same, some_none, put_held, put_here, put_there, hold-in-use, hold-owner, empty-sound, empty-read, fill-sound, fill-read, fill-closed, fill-fits}
-use Rattle.machine.proofs.Kept.{Kept, place, still, kept_none, kept_then, end_end, merge-one-end, merge-kept, fill-kept}
+use Rattle.machine.proofs.Merge.{end_lives, end_below, end_in_use, merge_sound, merge_closed, merge_joins, merge_read, merge_given, merge_held, merge_dead, merge_front}
+use Rattle.machine.proofs.Fill.{some_same, some_none, put_held, put_here, put_there, hold_in_use, hold_owner, empty_sound, empty_read, fill_sound, fill_read, fill_closed, fill_fits}
+use Rattle.machine.proofs.Kept.{Kept, place, still, kept_none, kept_then, end_end, merge_one_end, merge_kept, fill_kept}
 use Rattle.machine.proofs.Check.{on_cases}
 use Rattle.machine.proofs.Ranks.{merge_room}
 use Rattle.machine.specs.Shift.{Room}
@@ -45,7 +45,7 @@ cell_entry e d l k q = cc
 
 fill_draining : (L : Loaded) (v n : ℕ) (s : State) → Draining L v n s → (u l w : ℕ) → InUse s u → l < L.links → (u ≡ v → ⊥) → InUse s w → (w ≡ v → ⊥) → Draining L v n (hold (cell u l) (Some w) s)
 fill_draining L v n s d u l w iu hl nu iw nw = record {
-  sound = fill-sound L s (cell u l) w d.sound iw (iu, hl);
+  sound = fill_sound L s (cell u l) w d.sound iw (iu, hl);
   dead = d.dead;
   numbered = d.numbered;
   front = d.front;
@@ -55,19 +55,19 @@ fill_draining L v n s d u l w iu hl nu iw nw = record {
 
 merge_draining : (L : Loaded) (v n : ℕ) (s : State) → Draining L v n s → (a b : ℕ) → a < s.given → b < s.given → Draining L v n (merge a b s)
 merge_draining L v n s d a b ha hb =
-    let h = merge-held L s d.sound a b ha hb in
+    let h = merge_held L s d.sound a b ha hb in
     record {
-      sound = merge-sound L s d.sound a b ha hb;
-      dead = merge-dead L s d.sound a b ha hb v d.dead;
-      numbered = subst (λ m. v < m) (sym (merge-given L s d.sound a b ha hb)) d.numbered;
-      front = merge-front L s d.sound a b ha hb v d.front;
+      sound = merge_sound L s d.sound a b ha hb;
+      dead = merge_dead L s d.sound a b ha hb v d.dead;
+      numbered = subst (λ m. v < m) (sym (merge_given L s d.sound a b ha hb)) d.numbered;
+      front = merge_front L s d.sound a b ha hb v d.front;
       unheld = λ t e. d.unheld t (ap (λ f. f t) (sym h) ∙ e);
       emptied = λ k q. ap (λ f. f (cell v k)) h ∙ d.emptied k q;
     }
 
 empty_draining : (L : Loaded) (v n : ℕ) (s : State) → Draining L v n s → Draining L v (suc n) (hold (cell v n) None s)
 empty_draining L v n s d = record {
-  sound = empty-sound L s (cell v n) d.sound;
+  sound = empty_sound L s (cell v n) d.sound;
   dead = d.dead;
   numbered = d.numbered;
   front = d.front;
@@ -103,26 +103,26 @@ module _ (L : Loaded) (v n : ℕ) (s : State) (hn : n < L.links) (d : Draining L
     abbrev w : ℕ
     w = end s c
 
-    bare-ok : Draining L v (suc n) bare
-    bare-ok = empty_draining L v n s d
+    bare_ok : Draining L v (suc n) bare
+    bare_ok = empty_draining L v n s d
 
-    c-in : c < s.given
-    c-in = (d.sound.used (cell v n) c held).0.below
+    c_in : c < s.given
+    c_in = (d.sound.used (cell v n) c held).0.below
 
-    u-not : u ≡ v → ⊥
-    u-not e = d.dead (subst (λ x. s.forward x ≡ x) e (end_lives L s d.sound v))
+    u_not : u ≡ v → ⊥
+    u_not e = d.dead (subst (λ x. s.forward x ≡ x) e (end_lives L s d.sound v))
 
-    w-not : w ≡ v → ⊥
-    w-not e = d.dead (subst (λ x. s.forward x ≡ x) e (end_lives L s d.sound c))
+    w_not : w ≡ v → ⊥
+    w_not e = d.dead (subst (λ x. s.forward x ≡ x) e (end_lives L s d.sound c))
 
-    u-use : InUse bare u
-    u-use = hold-in-use L s (cell v n) None u (end_in_use L s d.sound v d.numbered)
+    u_use : InUse bare u
+    u_use = hold_in_use L s (cell v n) None u (end_in_use L s d.sound v d.numbered)
 
-    w-use : InUse bare w
-    w-use = hold-in-use L s (cell v n) None w (end_in_use L s d.sound c c-in)
+    w_use : InUse bare w
+    w_use = hold_in_use L s (cell v n) None w (end_in_use L s d.sound c c_in)
 
-    w-worth : (R : Receiver L) (P : Placing L R) (ρ : ℕ → ℕ) → Reading L R P s ρ → ρ w ≡ R.lead n (ρ u)
-    w-worth R P ρ r = end_read L R P s ρ r c ∙ (r.agrees (cell v n) c held ∙ ap (R.lead n) (sym (end_read L R P s ρ r v)))
+    w_worth : (R : Receiver L) (P : Placing L R) (ρ : ℕ → ℕ) → Reading L R P s ρ → ρ w ≡ R.lead n (ρ u)
+    w_worth R P ρ r = end_read L R P s ρ r c ∙ (r.agrees (cell v n) c held ∙ ap (R.lead n) (sym (end_read L R P s ρ r v)))
 
     back : (Q : ℕ → Type 0) → Closed Q bare → (Q u → Q w) → Closed Q s
     back Q k f = empty_closed s (cell v n) c held Q k (λ q. end_comes Q bare k c (f (end_goes Q bare k v q)))
@@ -144,50 +144,50 @@ module _ (L : Loaded) (v n : ℕ) (s : State) (hn : n < L.links) (d : Draining L
       ];
     }
 
-    when-empty : bare.held (cell u n) ≡ None → Pulled (hold (cell u n) (Some w) bare)
+    when_empty : bare.held (cell u n) ≡ None → Pulled (hold (cell u n) (Some w) bare)
     unfolding Pulled
-    when-empty none = (
-      fill_draining L v (suc n) bare bare-ok u n w u-use hn u-not w-use w-not,
+    when_empty none = (
+      fill_draining L v (suc n) bare bare_ok u n w u_use hn u_not w_use w_not,
       record {
         given = refl;
         room = λ r. r;
-        read = λ R P ρ r. fill-read L bare (cell u n) w R P ρ (empty-read L s (cell v n) R P ρ r) (w-worth R P ρ r);
+        read = λ R P ρ r. fill_read L bare (cell u n) w R P ρ (empty_read L s (cell v n) R P ρ r) (w_worth R P ρ r);
         reach = λ x q.
             let z : State = hold (cell u n) (Some w) bare in
             let k = closed_reach z in
-            closed_all (back (Reach z) (fill-closed L bare (cell u n) w none (Reach z) k) (fill-fits L bare (cell u n) w (Reach z) k)) q;
-        kept = handed (hold (cell u n) (Some w) bare) (fill-kept bare (cell u n) none w) w (put_here (cell u n) (Some w) bare.held) refl;
+            closed_all (back (Reach z) (fill_closed L bare (cell u n) w none (Reach z) k) (fill_fits L bare (cell u n) w (Reach z) k)) q;
+        kept = handed (hold (cell u n) (Some w) bare) (fill_kept bare (cell u n) none w) w (put_here (cell u n) (Some w) bare.held) refl;
       },
     )
 
-    when-full : (e : ℕ) → bare.held (cell u n) ≡ Some e → Pulled (merge e w bare)
+    when_full : (e : ℕ) → bare.held (cell u n) ≡ Some e → Pulled (merge e w bare)
     unfolding Pulled
-    when-full e full =
-        let he : e < s.given = (bare-ok.sound.used (cell u n) e full).0.below in
-        let hw : w < s.given = w-use.below in (
-          merge_draining L v (suc n) bare bare-ok e w he hw,
+    when_full e full =
+        let he : e < s.given = (bare_ok.sound.used (cell u n) e full).0.below in
+        let hw : w < s.given = w_use.below in (
+          merge_draining L v (suc n) bare bare_ok e w he hw,
           record {
-            given = merge-given L bare bare-ok.sound e w he hw;
-            room = merge_room L bare bare-ok.sound e w he hw;
+            given = merge_given L bare bare_ok.sound e w he hw;
+            room = merge_room L bare bare_ok.sound e w he hw;
             read = λ R P ρ r.
-                let b = empty-read L s (cell v n) R P ρ r in
-                merge-read L bare bare-ok.sound e w he hw R P ρ b (b.agrees (cell u n) e full ∙ sym (w-worth R P ρ r));
+                let b = empty_read L s (cell v n) R P ρ r in
+                merge_read L bare bare_ok.sound e w he hw R P ρ b (b.agrees (cell u n) e full ∙ sym (w_worth R P ρ r));
             reach = λ x q.
                 let z : State = merge e w bare in
                 let k = closed_reach z in
-                let m = merge-closed L bare bare-ok.sound e w he hw (Reach z) k in
-                closed_all (back (Reach z) m (λ y. (merge-joins L bare bare-ok.sound e w he hw (Reach z) k).0 (m.fits (cell u n) e full y))) q;
-            kept = handed (merge e w bare) (merge-kept bare d.sound.lower e w) e (ap (λ h. h (cell u n)) (merge-held L bare bare-ok.sound e w he hw) ∙ full) (merge-one-end bare d.sound.lower e w);
+                let m = merge_closed L bare bare_ok.sound e w he hw (Reach z) k in
+                closed_all (back (Reach z) m (λ y. (merge_joins L bare bare_ok.sound e w he hw (Reach z) k).0 (m.fits (cell u n) e full y))) q;
+            kept = handed (merge e w bare) (merge_kept bare d.sound.lower e w) e (ap (λ h. h (cell u n)) (merge_held L bare bare_ok.sound e w he hw) ∙ full) (merge_one_end bare d.sound.lower e w);
           },
         )
 
     taken : Pulled (take_over u n w bare)
     unfolding take_over
-    taken = on_cases Pulled (bare.held (cell u n)) (hold (cell u n) (Some w) bare) (λ e. merge e w bare) when-empty when-full
+    taken = on_cases Pulled (bare.held (cell u n)) (hold (cell u n) (Some w) bare) (λ e. merge e w bare) when_empty when_full
 
-  nothing-there : s.held (cell v n) ≡ None → Pulled s
+  nothing_there : s.held (cell v n) ≡ None → Pulled s
   unfolding Pulled
-  nothing-there none = (
+  nothing_there none = (
     record {
       sound = d.sound;
       dead = d.dead;
@@ -201,7 +201,7 @@ module _ (L : Loaded) (v n : ℕ) (s : State) (hn : n < L.links) (d : Draining L
 
   pub pulled : Draining L v (suc n) (pull v n s) × Moved L s (pull v n s)
   unfolding pull Pulled
-  pulled = on_cases Pulled (s.held (cell v n)) s (λ c. take_over (end s v) n (end s c) (hold (cell v n) None s)) nothing-there taken
+  pulled = on_cases Pulled (s.held (cell v n)) s (λ c. take_over (end s v) n (end s c) (hold (cell v n) None s)) nothing_there taken
 
 pub drained : (L : Loaded) (v n : ℕ) (s : State) → n ≤ L.links → Draining L v 0 s → Draining L v n (drain v n s) × Moved L s (drain v n s)
 unfolding drain
@@ -229,26 +229,26 @@ module _ (L : Loaded) (s : State) (v : ℕ) (ok : Sound L s) (hv : v < s.given) 
   abbrev moved : State
   moved = rehold v (end s v) s
 
-  re-use : (x : ℕ) → InUse s x → InUse moved x
-  re-use x q = record { below = q.below; if_dead = q.if_dead }
+  re_use : (x : ℕ) → InUse s x → InUse moved x
+  re_use x q = record { below = q.below; if_dead = q.if_dead }
 
-  re-owner : (t : Slot) → Owner L s t → Owner L moved t
-  re-owner (cell e l) q = (re-use e q.0, q.1)
-  re-owner (landing k r) q = q
+  re_owner : (t : Slot) → Owner L s t → Owner L moved t
+  re_owner (cell e l) q = (re_use e q.0, q.1)
+  re_owner (landing k r) q = q
 
-  rehold-sound : Sound L moved
-  rehold-sound = record {
+  rehold_sound : Sound L moved
+  rehold_sound = record {
     lower = ok.lower;
     fresh = ok.fresh;
     dead = ok.dead;
     used = λ t w e. elim (swap_held v (end s v) (s.held t) w e) [
-      | inl q ↦ (subst (InUse moved) (sym q.1) (re-use (end s v) (end_in_use L s ok v hv)), re-owner t (ok.used t v q.0).1)
-      | inr q ↦ (re-use w (ok.used t w q.0).0, re-owner t (ok.used t w q.0).1)
+      | inl q ↦ (subst (InUse moved) (sym q.1) (re_use (end s v) (end_in_use L s ok v hv)), re_owner t (ok.used t v q.0).1)
+      | inr q ↦ (re_use w (ok.used t w q.0).0, re_owner t (ok.used t w q.0).1)
     ];
   }
 
-  rehold-moved : Moved L s moved
-  rehold-moved = record {
+  rehold_moved : Moved L s moved
+  rehold_moved = record {
     given = refl;
     room = λ r. r;
     read = λ R P ρ d. record {
@@ -280,9 +280,9 @@ module _ (L : Loaded) (s : State) (v : ℕ) (ok : Sound L s) (hv : v < s.given) 
     };
   }
 
-  pub rehold-draining : (s.forward v ≡ v → ⊥) → ((ws : List ℕ) × (s.waiting ≡ v ∷ ws)) → Draining L v 0 moved
-  rehold-draining dead front = record {
-    sound = rehold-sound;
+  pub rehold_draining : (s.forward v ≡ v → ⊥) → ((ws : List ℕ) × (s.waiting ≡ v ∷ ws)) → Draining L v 0 moved
+  rehold_draining dead front = record {
+    sound = rehold_sound;
     dead = dead;
     numbered = hv;
     front = front;
@@ -299,28 +299,28 @@ tail_length (x ∷ xs) = omega arith
 
 -- v waits no more
 module _ (L : Loaded) (v : ℕ) (s : State) (d : Draining L v L.links s) where
-  pop-use : (x : ℕ) → (x ≡ v → ⊥) → InUse s x → InUse (pop s) x
-  pop-use x n q = record {
+  pop_use : (x : ℕ) → (x ≡ v → ⊥) → InUse s x → InUse (pop s) x
+  pop_use x n q = record {
     below = q.below;
     if_dead = λ dead.
         let m : Mem x (v ∷ d.front.0) = subst (Mem x) d.front.1 (q.if_dead dead) in
         elim m [ inl e ↦ absurd (n e) | inr k ↦ subst (Mem x) (sym (ap tail d.front.1)) k ];
   }
 
-  pop-owner : (t : Slot) (w : ℕ) → s.held t ≡ Some w → Owner L s t → Owner L (pop s) t
-  pop-owner (cell e l) w q o = (pop-use e (λ p. some_none w (s.held (cell e l)) q (ap (λ y. s.held (cell y l)) p ∙ d.emptied l o.1)) o.0, o.1)
-  pop-owner (landing k r) w q o = o
+  pop_owner : (t : Slot) (w : ℕ) → s.held t ≡ Some w → Owner L s t → Owner L (pop s) t
+  pop_owner (cell e l) w q o = (pop_use e (λ p. some_none w (s.held (cell e l)) q (ap (λ y. s.held (cell y l)) p ∙ d.emptied l o.1)) o.0, o.1)
+  pop_owner (landing k r) w q o = o
 
-  pub pop-sound : Sound L (pop s)
-  pop-sound = record {
+  pub pop_sound : Sound L (pop s)
+  pop_sound = record {
     lower = d.sound.lower;
     fresh = d.sound.fresh;
     dead = λ x m. d.sound.dead x (subst (Mem x) (sym d.front.1) (inr (subst (Mem x) (ap tail d.front.1) m)));
-    used = λ t w e. (pop-use w (λ p. d.unheld t (e ∙ ap Some p)) (d.sound.used t w e).0, pop-owner t w e (d.sound.used t w e).1);
+    used = λ t w e. (pop_use w (λ p. d.unheld t (e ∙ ap Some p)) (d.sound.used t w e).0, pop_owner t w e (d.sound.used t w e).1);
   }
 
-  pub pop-moved : Moved L s (pop s)
-  pop-moved = record {
+  pub pop_moved : Moved L s (pop s)
+  pop_moved = record {
     given = refl;
     room = λ r. omega (arith, r, tail_length s.waiting);
     read = λ R P ρ r. record { counted = r.counted; forwards = r.forwards; agrees = r.agrees };
@@ -348,9 +348,9 @@ settled_moved L s ok = go s.waiting refl
         let dead = ok.dead v here in
         let hv : v < s.given = elim (Rattle.std.proofs.lemmas.Bool.cases_lt v s.given) [ inl y ↦ y | inr y ↦ absurd (dead (ok.fresh v y)) ] in
         let r = rehold v (end s v) s in
-        let a = drained L v L.links r (omega arith) (rehold-draining L s v ok hv dead (vs, e)) in
+        let a = drained L v L.links r (omega arith) (rehold_draining L s v ok hv dead (vs, e)) in
         let z = drain v L.links r in
-        (pop-sound L v z a.0, moved_then L s z (pop z) (moved_then L s r z (rehold-moved L s v ok hv) a.1) (pop-moved L v z a.0))
+        (pop_sound L v z a.0, moved_then L s z (pop z) (moved_then L s r z (rehold_moved L s v ok hv) a.1) (pop_moved L v z a.0))
 
 pub settled_good : (L : Loaded) (s : State) → Good L s → Good L (settled L s)
 settled_good L s g = let m = settled_moved L s g.sound in moved_good L s (settled L s) g m.0 m.1

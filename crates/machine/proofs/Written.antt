@@ -15,13 +15,13 @@ use Rattle.machine.specs.Complete.{Complete}
 use Rattle.machine.specs.Sequence.{sequence}
 use Rattle.machine.specs.Finish.{tally, before, first_or, entry_in, number, entry, count_of, lead_of, at_of, register_file, finish_words, with_capacity, Alike, OneTable, unfinished, FinishAccepts}
 use Rattle.machine.proofs.Upto.{upto_same}
-use Rattle.machine.proofs.Numbering.{grown-fine}
+use Rattle.machine.proofs.Numbering.{grown_fine}
 use Rattle.machine.proofs.Runs.{cond_some, calls_good, calls_kinds, start_good, start_kinds}
 use Rattle.machine.proofs.Finished.{complete_when_done}
-use Rattle.machine.proofs.Capacity.{Whole, whole_of, accepted-at}
-use Rattle.machine.proofs.Own.{Living, held-living}
-use Rattle.machine.proofs.Entries.{entry-yes, entry-no, tally-yes, tally-no, entry_each, before_each}
-use Rattle.machine.proofs.Twins.{carry, carry-living, round_is, held_same, image, Kept, Each, fine_each, to, kind-kept, test-kept, slot_kept, sequence-same}
+use Rattle.machine.proofs.Capacity.{Whole, whole_of, accepted_at}
+use Rattle.machine.proofs.Own.{Living, held_living}
+use Rattle.machine.proofs.Entries.{entry_yes, entry_no, tally_yes, tally_no, entry_each, before_each}
+use Rattle.machine.proofs.Twins.{carry, carry_living, round_is, held_same, image, Kept, Each, fine_each, to, kind_kept, test_kept, slot_kept, sequence_same}
 
 -- rows between the same kinds that lead alike
 abbrev rows : (ℕ → ℕ) → (ℕ → ℕ) → (ℕ → ℕ → ℕ) → (ℕ → ℕ) → ℕ → List Row
@@ -49,19 +49,19 @@ module _ (L : Loaded) (acc : Accepted L) (c : ℕ) (s z : State) (a : Whole L s)
   ρ = to L acc c s z a b
 
   all_live : Each (Living s) (sequence L s)
-  all_live = fine_each (Living s) (sequence L s) (grown-fine L s a.good a.complete.quiet s.given)
+  all_live = fine_each (Living s) (sequence L s) (grown_fine L s a.good a.complete.quiet s.given)
 
-  tally-map : (k : ℕ) (xs : List ℕ) → Each (Living s) xs → tally z.kind k (map ρ xs) ≡ tally s.kind k xs
+  tally_map : (k : ℕ) (xs : List ℕ) → Each (Living s) xs → tally z.kind k (map ρ xs) ≡ tally s.kind k xs
   unfolding tally
-  tally-map k [] f = refl
-  tally-map k (x ∷ xs) f =
-      ap (λ j. cond (eqb j k) (suc (tally z.kind k (map ρ xs))) (tally z.kind k (map ρ xs))) (kind-kept L acc c s z a b x f.0)
-      ∙ ap (λ n. cond (eqb (s.kind x) k) (suc n) n) (tally-map k xs f.1)
+  tally_map k [] f = refl
+  tally_map k (x ∷ xs) f =
+      ap (λ j. cond (eqb j k) (suc (tally z.kind k (map ρ xs))) (tally z.kind k (map ρ xs))) (kind_kept L acc c s z a b x f.0)
+      ∙ ap (λ n. cond (eqb (s.kind x) k) (suc n) n) (tally_map k xs f.1)
 
-  before-map : (e : ℕ) (xs : List ℕ) → Living s e → Each (Living s) xs → before (ρ e) (map ρ xs) ≡ map ρ (before e xs)
+  before_map : (e : ℕ) (xs : List ℕ) → Living s e → Each (Living s) xs → before (ρ e) (map ρ xs) ≡ map ρ (before e xs)
   unfolding before
-  before-map e [] h f = refl
-  before-map e (x ∷ xs) h f = ap (λ t. cond t [] (ρ x ∷ before (ρ e) (map ρ xs))) (test-kept L acc c s z a b x e f.0 h) ∙ go (eqb x e) (before-map e xs h f.1)
+  before_map e [] h f = refl
+  before_map e (x ∷ xs) h f = ap (λ t. cond t [] (ρ x ∷ before (ρ e) (map ρ xs))) (test_kept L acc c s z a b x e f.0 h) ∙ go (eqb x e) (before_map e xs h f.1)
     where
       go : (t : Bool) → before (ρ e) (map ρ xs) ≡ map ρ (before e xs) → cond t [] (ρ x ∷ before (ρ e) (map ρ xs)) ≡ map ρ (cond t [] (x ∷ before e xs))
       go true q = refl
@@ -69,42 +69,42 @@ module _ (L : Loaded) (acc : Accepted L) (c : ℕ) (s z : State) (a : Whole L s)
 
   number_same : (e : ℕ) → Living s e → number M z (ρ e) ≡ number L s e
   number_same e h =
-      ap (λ xs. tally z.kind (z.kind (ρ e)) (before (ρ e) xs)) (sequence-same L acc c s z a b)
-      ∙ (ap (λ k. tally z.kind k (before (ρ e) (map ρ (sequence L s)))) (kind-kept L acc c s z a b e h)
-      ∙ (ap (tally z.kind (s.kind e)) (before-map e (sequence L s) h all_live)
-      ∙ tally-map (s.kind e) (before e (sequence L s)) (before_each (Living s) e (sequence L s) all_live)))
+      ap (λ xs. tally z.kind (z.kind (ρ e)) (before (ρ e) xs)) (sequence_same L acc c s z a b)
+      ∙ (ap (λ k. tally z.kind k (before (ρ e) (map ρ (sequence L s)))) (kind_kept L acc c s z a b e h)
+      ∙ (ap (tally z.kind (s.kind e)) (before_map e (sequence L s) h all_live)
+      ∙ tally_map (s.kind e) (before e (sequence L s)) (before_each (Living s) e (sequence L s) all_live)))
 
   -- what stands in a slot has the number that it had
   slot_same : (t : Slot) → Kept s t → on (z.held (image ρ t)) 0 (number M z) ≡ on (s.held t) 0 (number L s)
-  slot_same t k = ap (λ o. on o 0 (number M z)) (slot_kept L acc c s z a b t k) ∙ go (s.held t) (λ w q. held-living L acc s a t w q)
+  slot_same t k = ap (λ o. on o 0 (number M z)) (slot_kept L acc c s z a b t k) ∙ go (s.held t) (λ w q. held_living L acc s a t w q)
     where
       go : (o : Option ℕ) → ((w : ℕ) → o ≡ Some w → Living s w) → on (renamed ρ o) 0 (number M z) ≡ on o 0 (number L s)
       go None h = refl
       go (Some w) h = number_same w (h w refl)
 
-  entry-map : (k : ℕ) (xs : List ℕ) (n : ℕ) → Each (Living s) xs → n < tally s.kind k xs → entry_in z.kind k (map ρ xs) n ≡ ρ (entry_in s.kind k xs n)
+  entry_map : (k : ℕ) (xs : List ℕ) (n : ℕ) → Each (Living s) xs → n < tally s.kind k xs → entry_in z.kind k (map ρ xs) n ≡ ρ (entry_in s.kind k xs n)
   unfolding tally entry_in
-  entry-map k [] n f h = absurd (omega (arith, h))
-  entry-map k (x ∷ xs) n f h = elim (cases_eq (s.kind x) k) [
-    | inl e ↦ entry-yes z.kind k (ρ x) (map ρ xs) n (kind-kept L acc c s z a b x f.0 ∙ e)
-        ∙ (first-or-both n x xs (λ m q. entry-map k xs m f.1 (omega (arith, tally-yes s.kind k x xs e, h, q))) ∙ ap ρ (sym (entry-yes s.kind k x xs n e)))
-    | inr e ↦ entry-no z.kind k (ρ x) (map ρ xs) n (λ q. e (sym (kind-kept L acc c s z a b x f.0) ∙ q))
-        ∙ (entry-map k xs n f.1 (omega (arith, tally-no s.kind k x xs e, h)) ∙ ap ρ (sym (entry-no s.kind k x xs n e)))
+  entry_map k [] n f h = absurd (omega (arith, h))
+  entry_map k (x ∷ xs) n f h = elim (cases_eq (s.kind x) k) [
+    | inl e ↦ entry_yes z.kind k (ρ x) (map ρ xs) n (kind_kept L acc c s z a b x f.0 ∙ e)
+        ∙ (first_or_both n x xs (λ m q. entry_map k xs m f.1 (omega (arith, tally_yes s.kind k x xs e, h, q))) ∙ ap ρ (sym (entry_yes s.kind k x xs n e)))
+    | inr e ↦ entry_no z.kind k (ρ x) (map ρ xs) n (λ q. e (sym (kind_kept L acc c s z a b x f.0) ∙ q))
+        ∙ (entry_map k xs n f.1 (omega (arith, tally_no s.kind k x xs e, h)) ∙ ap ρ (sym (entry_no s.kind k x xs n e)))
   ]
     where
-      first-or-both : (n x : ℕ) (xs : List ℕ) → ((m : ℕ) → n ≡ suc m → entry_in z.kind k (map ρ xs) m ≡ ρ (entry_in s.kind k xs m)) → first_or n (ρ x) (entry_in z.kind k (map ρ xs)) ≡ ρ (first_or n x (entry_in s.kind k xs))
-      first-or-both zero x xs f = refl
-      first-or-both (suc m) x xs f = f m refl
+      first_or_both : (n x : ℕ) (xs : List ℕ) → ((m : ℕ) → n ≡ suc m → entry_in z.kind k (map ρ xs) m ≡ ρ (entry_in s.kind k xs m)) → first_or n (ρ x) (entry_in z.kind k (map ρ xs)) ≡ ρ (first_or n x (entry_in s.kind k xs))
+      first_or_both zero x xs f = refl
+      first_or_both (suc m) x xs f = f m refl
 
-  lead-same : (l n : ℕ) → n < count_of L s (L.from l) → lead_of M z l n ≡ lead_of L s l n
-  lead-same l n h =
-      ap (λ e. on (z.held (cell e l)) 0 (number M z)) (ap (λ xs. entry_in z.kind (L.from l) xs n) (sequence-same L acc c s z a b) ∙ entry-map (L.from l) (sequence L s) n all_live h)
+  lead_same : (l n : ℕ) → n < count_of L s (L.from l) → lead_of M z l n ≡ lead_of L s l n
+  lead_same l n h =
+      ap (λ e. on (z.held (cell e l)) 0 (number M z)) (ap (λ xs. entry_in z.kind (L.from l) xs n) (sequence_same L acc c s z a b) ∙ entry_map (L.from l) (sequence L s) n all_live h)
       ∙ slot_same (cell (entry L s (L.from l) n) l) (entry_each (Living s) s.kind (L.from l) (sequence L s) n all_live h)
 
   pub words_same : finish_words M z ≡ finish_words L s
   words_same = ap layout (register_same L (count_of M z) (count_of L s) (lead_of M z) (lead_of L s) (at_of M z) (at_of L s)
-      (λ k. ap (tally z.kind k) (sequence-same L acc c s z a b) ∙ tally-map k (sequence L s) all_live)
-      lead-same
+      (λ k. ap (tally z.kind k) (sequence_same L acc c s z a b) ∙ tally_map k (sequence L s) all_live)
+      lead_same
       (λ k r. slot_same (landing k r) tt))
 
 pub whole_calls : (L : Loaded) → Accepted L → (cs : List Call) → Complete L (calls L cs start) → Whole L (calls L cs start)
@@ -115,22 +115,22 @@ pub one_finish : (L : Loaded) → Accepted L → (b c : ℕ) (cs ds : List Call)
     Complete (with_capacity b L) (calls (with_capacity b L) cs start) → Complete (with_capacity c L) (calls (with_capacity c L) ds start) →
     finish_words (with_capacity b L) (calls (with_capacity b L) cs start) ≡ finish_words (with_capacity c L) (calls (with_capacity c L) ds start)
 one_finish L acc b c cs ds p q =
-    let acb = accepted-at b L acc in
-    sym (words_same (with_capacity b L) acb c (calls (with_capacity b L) cs start) (calls (with_capacity c L) ds start) (whole_calls (with_capacity b L) acb cs p) (whole_calls (with_capacity c L) (accepted-at c L acc) ds q))
+    let acb = accepted_at b L acc in
+    sym (words_same (with_capacity b L) acb c (calls (with_capacity b L) cs start) (calls (with_capacity c L) ds start) (whole_calls (with_capacity b L) acb cs p) (whole_calls (with_capacity c L) (accepted_at c L acc) ds q))
 
 module _ (L : Loaded) (acc : Accepted L) (s z : State) (a : Whole L s) (b : Whole L z) where
   alike : Alike s z (carry L acc s z a b) (carry L acc z s b a)
   alike = record {
-    living = λ e h live. (let p = carry-living L acc s z a b e h in (p.0.0, p.0.1, p.1, round_is L acc s z a b e (h, live)));
+    living = λ e h live. (let p = carry_living L acc s z a b e h in (p.0.0, p.0.1, p.1, round_is L acc s z a b e (h, live)));
     landings = λ k r. held_same L acc s z a b (landing k r) tt;
     cells = λ e l h live. held_same L acc s z a b (cell e l) (h, live);
   }
 
 pub one_table : OneTable
 one_table L acc b c cs ds p q =
-    let acb = accepted-at b L acc in
+    let acb = accepted_at b L acc in
     let s = whole_calls (with_capacity b L) acb cs p in
-    let z = whole_of c (with_capacity b L) (calls (with_capacity c L) ds start) (whole_calls (with_capacity c L) (accepted-at c L acc) ds q) in
+    let z = whole_of c (with_capacity b L) (calls (with_capacity c L) ds start) (whole_calls (with_capacity c L) (accepted_at c L acc) ds q) in
     (carry (with_capacity b L) acb _ _ s z, carry (with_capacity b L) acb _ _ z s, alike (with_capacity b L) acb _ _ s z, alike (with_capacity b L) acb _ _ z s)
 
 nothing_left : (o : Option Op) → unfinished o ≡ None → o ≡ None

@@ -12,7 +12,7 @@ use Rattle.rows.specs.Layout.{Raw, Carries, shown, count}
 use Rattle.numbering.specs.declared.Numbering.{Numbering}
 use Rattle.numbering.specs.Listed.{Listed}
 use Rattle.numbering.specs.Marked.{Countable, Ready, Numbered, Grows, visited, of_kinds, of_rows, row}
-use Rattle.numbering.proofs.Kept.{fits, same-given, same-kinds, same-held, nth-row, met-short}
+use Rattle.numbering.proofs.Kept.{fits, same_given, same_kinds, same_held, nth_row, met_short}
 
 -- no entry is met yet
 pub numbered_none : (a : Raw) → Countable a → Numbered a a [] 0 (replicate 32 0)
@@ -35,22 +35,22 @@ numbered_none a ok = record {
 
 -- the lists of the loops are those of the machine
 module _ (L : Loaded) (a : Raw) (c : Carries L a.shape) where
-  kinds-landings : (k : ℕ) → k ≤ a.shape.kinds → of_kinds a k [] ≡ of_landings L (shown a) k
+  kinds_landings : (k : ℕ) → k ≤ a.shape.kinds → of_kinds a k [] ≡ of_landings L (shown a) k
   unfolding of_kinds of_landings
-  kinds-landings zero h = refl
-  kinds-landings (suc k) h = rw (c.counts k (omega arith)) (ap (of_kind (shown a) k (count a.shape k)) (kinds-landings k (omega arith)))
+  kinds_landings zero h = refl
+  kinds_landings (suc k) h = rw (c.counts k (omega arith)) (ap (of_kind (shown a) k (count a.shape k)) (kinds_landings k (omega arith)))
 
-  visited-visit : (i : ℕ) (xs : List ℕ) → visited a i xs ≡ visit L (shown a) i xs
-  visited-visit i xs = ap (λ (l : ℕ). on (nth xs i) xs (λ e. of_cells (shown a) e l xs)) (sym c.links)
+  visited_visit : (i : ℕ) (xs : List ℕ) → visited a i xs ≡ visit L (shown a) i xs
+  visited_visit i xs = ap (λ (l : ℕ). on (nth xs i) xs (λ e. of_cells (shown a) e l xs)) (sym c.links)
 
   rows_grown : (i : ℕ) → of_rows a i (of_landings L (shown a) L.source_kinds) ≡ grown L (shown a) i
   unfolding of_rows grown
   rows_grown zero = refl
-  rows_grown (suc i) = ap (visited a i) (rows_grown i) ∙ visited-visit i (grown L (shown a) i)
+  rows_grown (suc i) = ap (visited a i) (rows_grown i) ∙ visited_visit i (grown L (shown a) i)
 
-  sequence-met : of_rows a a.given (of_kinds a a.shape.kinds []) ≡ sequence L (shown a)
-  sequence-met =
-      ap (of_rows a a.given) (kinds-landings a.shape.kinds (omega arith) ∙ ap (of_landings L (shown a)) (sym c.kinds))
+  sequence_met : of_rows a a.given (of_kinds a a.shape.kinds []) ≡ sequence L (shown a)
+  sequence_met =
+      ap (of_rows a a.given) (kinds_landings a.shape.kinds (omega arith) ∙ ap (of_landings L (shown a)) (sym c.kinds))
       ∙ rows_grown a.given
 
 module _ (L : Loaded) (a b : Raw) (met : ℕ) (counts : List ℕ) (r : Ready L a) (m : Numbered a b (sequence L (shown a)) met counts) where
@@ -69,13 +69,13 @@ module _ (L : Loaded) (a b : Raw) (met : ℕ) (counts : List ℕ) (r : Ready L a
       let k = m.marked.kept in
       record {
         fits = fits a (sequence L (shown a)) b k;
-        given = same-given a (sequence L (shown a)) b k;
-        kinds = same-kinds a (sequence L (shown a)) b k;
-        held = same-held a (sequence L (shown a)) b k;
+        given = same_given a (sequence L (shown a)) b k;
+        kinds = same_kinds a (sequence L (shown a)) b k;
+        held = same_held a (sequence L (shown a)) b k;
         size = m.tallied.size;
-        room = omega (arith, met-short a (sequence L (shown a)) b k, m.tallied.size);
-        slots = λ i h. nth-row a (sequence L (shown a)) b k i (omega (arith, m.tallied.size));
-        known = λ i e h. omega (arith, (k.met.all i e h).0, same-given a (sequence L (shown a)) b k);
+        room = omega (arith, met_short a (sequence L (shown a)) b k, m.tallied.size);
+        slots = λ i h. nth_row a (sequence L (shown a)) b k i (omega (arith, m.tallied.size));
+        known = λ i e h. omega (arith, (k.met.all i e h).0, same_given a (sequence L (shown a)) b k);
         numbers = numbers;
         counted = λ j h. m.tallied.counted j (omega (arith, r.few));
         few = λ j. omega (arith, r.bounds.few j, r.carries.capacity, ap (λ (z : Raw). z.shape.capacity) k.numbers);
@@ -85,8 +85,8 @@ module _ (L : Loaded) (a b : Raw) (met : ℕ) (counts : List ℕ) (r : Ready L a
 
 -- both loops, one after the other
 module _ (a b d : Raw) (n o p : Numbering) (m : Numbered a a [] n.met n.counts) (g : Grows (λ a xs. of_kinds a a.shape.kinds xs) a n b o) (h : Grows (λ a xs. of_rows a a.given xs) b o d p) where
-  pub numbers-all : (L : Loaded) → Carries L a.shape → Numbered a d (sequence L (shown a)) p.met p.counts
-  numbers-all L c = subst (λ (xs : List ℕ). Numbered a d xs p.met p.counts) (sequence-met L a c) (h a _ (g a [] m))
+  pub numbers_all : (L : Loaded) → Carries L a.shape → Numbered a d (sequence L (shown a)) p.met p.counts
+  numbers_all L c = subst (λ (xs : List ℕ). Numbered a d xs p.met p.counts) (sequence_met L a c) (h a _ (g a [] m))
 
-  pub lists-all : (L : Loaded) → Ready L a → Listed L (shown a) d p.met p.counts
-  lists-all L r = listed L a d p.met p.counts r (numbers-all L r.carries)
+  pub lists_all : (L : Loaded) → Ready L a → Listed L (shown a) d p.met p.counts
+  lists_all L r = listed L a d p.met p.counts r (numbers_all L r.carries)

@@ -14,7 +14,7 @@ use Rattle.rows.proofs.Places.{place_fits, word_set}
 use Rattle.numbering.specs.declared.Numbering.{Numbering}
 use Rattle.numbering.specs.Marked.{Kept, Marked, Tallied, Numbered, Fresh, Next, row}
 use Rattle.numbering.proofs.Lists.{member_push, tally_push, before_last, before_push}
-use Rattle.numbering.proofs.Kept.{Lives, fine, short, forward_row, fits, same-given, same-kinds, same-held, held-lives}
+use Rattle.numbering.proofs.Kept.{Lives, fine, short, forward_row, fits, same_given, same_kinds, same_held, held_lives}
 
 met_new : (e : ℕ) (xs : List ℕ) → member e xs ≡ false → met e xs ≡ xs ++ e ∷ []
 met_new e xs h = rw h refl
@@ -27,11 +27,11 @@ module _ (a b : Raw) (xs : List ℕ) (m : Marked a b xs) (e : ℕ) (lives : Live
       let o = m.kept.from.tidy.fits in
       omega (arith, f, forward_row a e lives, lives.0, o.few, o.small)
 
-  was-met : 65536 ≤ row b e 1 → met e xs ≡ xs
-  was-met h = elim (cases_Bool (member e xs)) [ inl q ↦ rw q refl | inr q ↦ absurd (let u = unmet q in omega arith) ]
+  was_met : 65536 ≤ row b e 1 → met e xs ≡ xs
+  was_met h = elim (cases_Bool (member e xs)) [ inl q ↦ rw q refl | inr q ↦ absurd (let u = unmet q in omega arith) ]
 
-  is-new : row b e 1 < 65536 → member e xs ≡ false
-  is-new h = elim (cases_Bool (member e xs)) [
+  is_new : row b e 1 < 65536 → member e xs ≡ false
+  is_new h = elim (cases_Bool (member e xs)) [
     | inl q ↦ absurd (let f : row b e 1 ≡ 65536 + tally (shown a).kind ((shown a).kind e) (before e xs) = m.forwards e ∙ rw q refl in omega arith)
     | inr q ↦ q
   ]
@@ -44,15 +44,15 @@ module _ (a b : Raw) (xs : List ℕ) (n : ℕ) (counts : List ℕ) (e : ℕ) (m 
   abbrev more : List ℕ
   more = xs ++ e ∷ []
 
-  met-more : Fine (Lives (shown a)) more
-  met-more = subst (Fine (Lives (shown a))) (met_new e xs f.new) (met_fine (Lives (shown a)) e xs (f.below, f.lives) (fine (shown a) xs k.met))
+  met_more : Fine (Lives (shown a)) more
+  met_more = subst (Fine (Lives (shown a))) (met_new e xs f.new) (met_fine (Lives (shown a)) e xs (f.below, f.lives) (fine (shown a) xs k.met))
 
   room : n < b.shape.capacity
-  room = omega (arith, short (shown a) more met-more, length_push xs e, m.tallied.size, (fits a xs b k).few, same-given a xs b k)
+  room = omega (arith, short (shown a) more met_more, length_push xs e, m.tallied.size, (fits a xs b k).few, same_given a xs b k)
 
   module _ (kind : ℕ) (is-kind : kind ≡ (shown b).kind e) where
     same_kind : kind ≡ (shown a).kind e
-    same_kind = is-kind ∙ ap (λ (f : ℕ → ℕ). f e) (same-kinds a xs b k)
+    same_kind = is-kind ∙ ap (λ (f : ℕ → ℕ). f e) (same_kinds a xs b k)
 
     kind_small : kind < 32
     kind_small = rw same_kind (k.from.kinds e f.below)
@@ -75,14 +75,14 @@ module _ (a b : Raw) (xs : List ℕ) (n : ℕ) (counts : List ℕ) (e : ℕ) (m 
     row_written : (x j : ℕ) → j < b.shape.links + 3 → row (over b written) x j ≡ cond (eqb x e && eqb j 1) (65536 + get_or counts kind 0) (cond (eqb x n && eqb j 2) e (row b x j))
     row_written x j hj =
         let l = length-set b.ws (place b.shape.base b.shape.links n 2) e in
-        let f1 = fit e 1 (omega (arith, f.below, same-given a xs b k, (fits a xs b k).few)) (omega arith) in
+        let f1 = fit e 1 (omega (arith, f.below, same_given a xs b k, (fits a xs b k).few)) (omega arith) in
         word_set slotted b.shape.base b.shape.links e 1 (65536 + get_or counts kind 0) x j (omega arith) (omega arith) hj
         ∙ ap (cond (eqb x e && eqb j 1) (65536 + get_or counts kind 0)) (word_set b.ws b.shape.base b.shape.links n 2 e x j (fit n 2 room (omega arith)) (omega arith) hj)
 
     kept_more : Kept a (over b written) more
     kept_more = record {
       from = k.from;
-      met = record { once = met-more.once; all = met-more.all };
+      met = record { once = met_more.once; all = met_more.all };
       numbers = ap (λ (r : Raw). over r written) k.numbers;
       size = length-set slotted _ _ ∙ length-set b.ws _ e ∙ k.size;
       low = λ i h. get_or-set_other slotted _ i _ 0 (λ q. omega arith) ∙ get_or-set_other b.ws _ i e 0 (λ q. omega arith) ∙ k.low i h;
@@ -93,8 +93,8 @@ module _ (a b : Raw) (xs : List ℕ) (n : ℕ) (counts : List ℕ) (e : ℕ) (m 
       ]);
     }
 
-    forward-more : (x : ℕ) → row (over b written) x 1 ≡ cond (member x more) (65536 + tally (shown a).kind ((shown a).kind x) (before x more)) (row a x 1)
-    forward-more x =
+    forward_more : (x : ℕ) → row (over b written) x 1 ≡ cond (member x more) (65536 + tally (shown a).kind ((shown a).kind x) (before x more)) (row a x 1)
+    forward_more x =
         let w = row_written x 1 (omega arith) in
         let p = member_push x e xs in
         elim (eqb_tells x e) [
@@ -109,8 +109,8 @@ module _ (a b : Raw) (xs : List ℕ) (n : ℕ) (counts : List ℕ) (e : ℕ) (m 
               z ∙ m.marked.forwards x ∙ elim (cases_Bool (member x xs)) [ inl h ↦ rw (y, h, before_push x e xs h) refl | inr h ↦ rw (y, h) refl ])
         ]
 
-    tallied-more : Tallied (shown a) more (n + 1) (set counts kind (get_or counts kind 0 + 1))
-    tallied-more = record {
+    tallied_more : Tallied (shown a) more (n + 1) (set counts kind (get_or counts kind 0 + 1))
+    tallied_more = record {
       size = omega (arith, length_push xs e, m.tallied.size);
       width = length-set counts kind _ ∙ m.tallied.width;
       counted = λ j h. (let t = tally_push (shown a).kind j e xs in elim (cases_eq j kind) [
@@ -129,7 +129,7 @@ module _ (a b : Raw) (xs : List ℕ) (n : ℕ) (counts : List ℕ) (e : ℕ) (m 
 
     pub numbered_more : (at slot : ℕ) → at ≡ place b.shape.base b.shape.links e 1 → slot ≡ place b.shape.base b.shape.links n 2 →
         Numbered a (over b (set (set b.ws slot e) at (65536 + get_or counts kind 0))) more (n + 1) (set counts kind (get_or counts kind 0 + 1))
-    numbered_more at slot p q = rw (p, q) (record { marked = record { kept = kept_more; forwards = forward-more }; tallied = tallied-more })
+    numbered_more at slot p q = rw (p, q) (record { marked = record { kept = kept_more; forwards = forward_more }; tallied = tallied_more })
 
 -- what the code needs for it
 pub record Held (b : Raw) (e : ℕ) : Type 0 where
@@ -145,16 +145,16 @@ pub record New (b : Raw) (n : Numbering) (kind : ℕ) : Type 0 where
 held_in : (a b : Raw) (xs : List ℕ) → Kept a b xs → (e : ℕ) → e < a.given → Held b e
 held_in a b xs k e h = record {
   fits = fits a xs b k;
-  below = omega (arith, same-given a xs b k);
-  within = omega (arith, same-given a xs b k, (fits a xs b k).few);
+  below = omega (arith, same_given a xs b k);
+  within = omega (arith, same_given a xs b k, (fits a xs b k).few);
 }
 
 module _ (b : Raw) (n : Numbering) (e : ℕ) (u : Next b n e) where
-  pub next-held : Held b e
-  next-held = held_in u.0 b u.1 u.2.marked.kept e u.3.below
+  pub next_held : Held b e
+  next_held = held_in u.0 b u.1 u.2.marked.kept e u.3.below
 
-  pub next-new : (kind : ℕ) → kind ≡ (shown b).kind e → New b n kind
-  next-new kind q = record {
+  pub next_new : (kind : ℕ) → kind ≡ (shown b).kind e → New b n kind
+  next_new kind q = record {
     room = room u.0 b u.1 n.met n.counts e u.2 u.3;
     kind_small = kind_small u.0 b u.1 n.met n.counts e u.2 u.3 kind q;
     few = few u.0 b u.1 n.met n.counts e u.2 u.3 kind q;
@@ -162,24 +162,24 @@ module _ (b : Raw) (n : Numbering) (e : ℕ) (u : Next b n e) where
 
 -- what the code meets in a slot
 module _ (a b : Raw) (xs : List ℕ) (n : ℕ) (counts : List ℕ) (m : Numbered a b xs n counts) (t : Slot) where
-  held-as : (o : Option ℕ) → (shown b).held t ≡ o → (shown a).held t ≡ o
-  held-as o h = sym (ap (λ (f : Slot → Option ℕ). f t) (same-held a xs b m.marked.kept)) ∙ h
+  held_as : (o : Option ℕ) → (shown b).held t ≡ o → (shown a).held t ≡ o
+  held_as o h = sym (ap (λ (f : Slot → Option ℕ). f t) (same_held a xs b m.marked.kept)) ∙ h
 
-  pub meets-none : (shown b).held t ≡ None → Numbered a b (met_in ((shown a).held t) xs) n counts
-  meets-none h = rw (held-as None h) m
+  pub meets_none : (shown b).held t ≡ None → Numbered a b (met_in ((shown a).held t) xs) n counts
+  meets_none h = rw (held_as None h) m
 
   module _ (e : ℕ) (held : (shown b).held t ≡ Some e) where
     here : Lives (shown a) e
-    here = held-lives a xs b m.marked.kept t e held
+    here = held_lives a xs b m.marked.kept t e held
 
-    pub meets-held : Held b e
-    meets-held = held_in a b xs m.marked.kept e here.0
+    pub meets_held : Held b e
+    meets_held = held_in a b xs m.marked.kept e here.0
 
-    pub meets-met : 65536 ≤ row b e 1 → Numbered a b (met_in ((shown a).held t) xs) n counts
-    meets-met h = rw (held-as (Some e) held, was-met a b xs m.marked e here h) m
+    pub meets_met : 65536 ≤ row b e 1 → Numbered a b (met_in ((shown a).held t) xs) n counts
+    meets_met h = rw (held_as (Some e) held, was_met a b xs m.marked e here h) m
 
-    pub meets-fresh : row b e 1 < 65536 → Fresh a xs e
-    meets-fresh h = record { below = here.0; lives = here.1; new = is-new a b xs m.marked e here h }
+    pub meets_fresh : row b e 1 < 65536 → Fresh a xs e
+    meets_fresh h = record { below = here.0; lives = here.1; new = is_new a b xs m.marked e here h }
 
-    pub meets-new : row b e 1 < 65536 → (c : Raw) (o : ℕ) (d : List ℕ) → (Fresh a xs e → Numbered a c (xs ++ e ∷ []) o d) → Numbered a c (met_in ((shown a).held t) xs) o d
-    meets-new h c o d f = rw (held-as (Some e) held, met_new e xs (meets-fresh h).new) (f (meets-fresh h))
+    pub meets_new : row b e 1 < 65536 → (c : Raw) (o : ℕ) (d : List ℕ) → (Fresh a xs e → Numbered a c (xs ++ e ∷ []) o d) → Numbered a c (met_in ((shown a).held t) xs) o d
+    meets_new h c o d f = rw (held_as (Some e) held, met_new e xs (meets_fresh h).new) (f (meets_fresh h))

@@ -15,7 +15,7 @@ use Rattle.machine.specs.Finish.{Bounds, finish_fault}
 use Rattle.machine.proofs.Loads.{accepted}
 use Rattle.machine.proofs.Limits.{load_limits}
 use Rattle.machine.proofs.Runs.{calls_good, calls_kinds, start_good, start_kinds}
-use Rattle.machine.proofs.Numbering.{all_numbered, held-lives}
+use Rattle.machine.proofs.Numbering.{all_numbered, held_lives}
 use Rattle.machine.proofs.Bounds.{finish_bounds, kind_known}
 use Rattle.machine.proofs.Written.{finish_accepts}
 use Rattle.rows.specs.Layout.{Raw, Tidy, Carries, shown}
@@ -49,7 +49,7 @@ module _ (work : ℕ) (ws : List ℕ) (m : Meaning) (L : Loaded) (loads : load w
       record {
         tidy = t;
         quiet = sym (waits_are r) ∙ ap (λ (s : State). length s.waiting) state ∙ ap length done.quiet;
-        live = subst HeldLive (sym state) (λ t w e. (held-lives L (calls L made start) g done.quiet t w e).1);
+        live = subst HeldLive (sym state) (λ t w e. (held_lives L (calls L made start) g done.quiet t w e).1);
         kinds = λ e h. (let q = ap (λ (s : State). s.kind e) state in
             omega (arith, q, kind_known L acc (calls L made start) g ks e (subst (λ (s : State). e < s.given) state h), (load_limits work ws m L loads).kinds));
       }

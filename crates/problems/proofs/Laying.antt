@@ -12,22 +12,22 @@ use Rattle.words.proofs.Standing.{Stands, join, front, back, stood_stands, stand
 use Rattle.words.proofs.Laid.{ok_same, more_some}
 use Rattle.problems.specs.Problem.{Link, Rule, link_of, link, path, meeting, paths, rule_of, rule, rule_size, path_size, kind_of, kind_mapped, begins, stops, arriving, map_of, link_mapped}
 use Rattle.problems.specs.Layout.{link_words, rule_words, kind_words, map_words, Walks, GoodLink, GoodRule, GoodMap}
-use Rattle.problems.proofs.Paths.{link_told, path-length}
-use Rattle.problems.proofs.Ruling.{rule-is}
+use Rattle.problems.proofs.Paths.{link_told, path_length}
+use Rattle.problems.proofs.Ruling.{rule_is}
 use Rattle.problems.proofs.Mapping.{kind_told, map_is_path}
-use Rattle.problems.proofs.Walking.{path-stands, path-walks, path-made}
+use Rattle.problems.proofs.Walking.{path_stands, path_walks, path_made}
 use Rattle.words.specs.declared.tags.Tag.TheVariants as tag
 
 -- links
 module _ (kinds : ℕ) (ws : List ℕ) where
-  pub link-stands : (n room at : ℕ) (l : Link) → n + room ≡ 64 → link kinds ws room at ≡ Ok l → Stands ws at (link_words l) (at + 1)
-  link-stands n room at l t e = stood_stands tag.Link ws at (l.from * 256 + l.to) (word_told tag.Link ws at (l.from * 256 + l.to) (link_told kinds ws room at l e).head)
+  pub link_stands : (n room at : ℕ) (l : Link) → n + room ≡ 64 → link kinds ws room at ≡ Ok l → Stands ws at (link_words l) (at + 1)
+  link_stands n room at l t e = stood_stands tag.Link ws at (l.from * 256 + l.to) (word_told tag.Link ws at (l.from * 256 + l.to) (link_told kinds ws room at l e).head)
 
-  pub link-good : (n room at : ℕ) (l : Link) → n + room ≡ 64 → link kinds ws room at ≡ Ok l → GoodLink kinds l
-  link-good n room at l t e = let r = link_told kinds ws room at l e in record { from_known = r.from_known; to_known = r.to_known }
+  pub link_good : (n room at : ℕ) (l : Link) → n + room ≡ 64 → link kinds ws room at ≡ Ok l → GoodLink kinds l
+  link_good n room at l t e = let r = link_told kinds ws room at l e in record { from_known = r.from_known; to_known = r.to_known }
 
-  pub link-read : kinds ≤ 32 → (n room at b : ℕ) (l : Link) → n + room ≡ 64 → 0 < room → GoodLink kinds l → Stands ws at (link_words l) b → (link kinds ws room at ≡ Ok l) × (starts tag.Link ws at ≡ true)
-  link-read few n room at b l t h g s =
+  pub link_read : kinds ≤ 32 → (n room at b : ℕ) (l : Link) → n + room ≡ 64 → 0 < room → GoodLink kinds l → Stands ws at (link_words l) b → (link kinds ws room at ≡ Ok l) × (starts tag.Link ws at ≡ true)
+  link_read few n room at b l t h g s =
       let v = l.from * 256 + l.to in
       let w : v < 65536 = omega (arith, g.from_known, g.to_known) in
       let f : v / 256 ≡ l.from = omega (arith, g.to_known) in
@@ -67,8 +67,8 @@ module _ (kinds : ℕ) (ts : List Link) (ws : List ℕ) where
       let d = if_ok (eqb l.0.1 q.0.1) (Ok (record { first = f; left = l.0.0; right = q.0.0 })) (Unjoined (at + n + m)) r q.2 in
       let same : r ≡ record { first = f; left = l.0.0; right = q.0.0 } = ok_same d.1 in
       let s = word_told tag.Rule ws at v (worded_ok (word tag.Rule ws at) v x.1) in
-      let nl = path-length ts ws n f (at + 1) l.0 l.1 in
-      let nr = path-length ts ws m f (at + 1 + n) q.0 q.1 in
+      let nl = path_length ts ws n f (at + 1) l.0 l.1 in
+      let nr = path_length ts ws m f (at + 1 + n) q.0 q.1 in
       let b0 = neither (eqb room 0) (ltb 64 n || ltb 64 m) y.0 in
       let b1 = neither (ltb 64 n) (ltb 64 m) b0.1 in
       let n64 : n ≤ 64 = let t = b1.0 in grind (arith, nat_tests) in
@@ -80,20 +80,20 @@ module _ (kinds : ℕ) (ts : List Link) (ws : List ℕ) where
         laid = rw (← vf, ← far) (join ws at (at + 1) (at + 1 + n + m) (tagged tag.Rule v ∷ []) (map (tagged tag.Step) l.0.0 ++ map (tagged tag.Step) q.0.0)
             (stood_stands tag.Rule ws at v s)
             (join ws (at + 1) (at + 1 + n) (at + 1 + n + m) (map (tagged tag.Step) l.0.0) (map (tagged tag.Step) q.0.0)
-            (path-stands ts ws n f (at + 1) l.0 l.1) (path-stands ts ws m f (at + 1 + n) q.0 q.1)));
+            (path_stands ts ws n f (at + 1) l.0 l.1) (path_stands ts ws m f (at + 1 + n) q.0 q.1)));
         good = record {
           known = let t = z.0 in grind (arith, nat_tests);
           left_short = omega arith;
           right_short = omega arith;
           end = l.0.1;
-          left_walks = path-walks ts ws n f (at + 1) l.0 l.1;
-          right_walks = rw meet at (path-walks ts ws m f (at + 1 + n) q.0 q.1);
+          left_walks = path_walks ts ws n f (at + 1) l.0 l.1;
+          right_walks = rw meet at (path_walks ts ws m f (at + 1 + n) q.0 q.1);
         };
       })
 
-  paths-made : (at e : ℕ) (r : Rule) → path ts ws (length r.left) r.first (at + 1) ≡ Ok (r.left, e) → path ts ws (length r.right) r.first (at + 1 + length r.left) ≡ Ok (r.right, e)
+  paths_made : (at e : ℕ) (r : Rule) → path ts ws (length r.left) r.first (at + 1) ≡ Ok (r.left, e) → path ts ws (length r.right) r.first (at + 1 + length r.left) ≡ Ok (r.right, e)
       → paths ts ws at r.first (length r.left) (length r.right) ≡ Ok r
-  paths-made at e r a b =
+  paths_made at e r a b =
       let n = length r.left in
       let m = length r.right in
       let z : eqb e e ≡ true = grind (arith, nat_tests) in
@@ -101,8 +101,8 @@ module _ (kinds : ℕ) (ts : List Link) (ws : List ℕ) where
       ∙ ap (λ x. then x (meeting r.first (at + n + m) (r.left, e))) b
       ∙ ap (λ c. cond c (Ok r) (Err (Unjoined (at + n + m)))) z
 
-  pub rule-read : kinds ≤ 32 → length ts ≤ 64 → (n room at b : ℕ) (r : Rule) → n + room ≡ 128 → 0 < room → GoodRule kinds ts r → Stands ws at (rule_words r) b → (rule kinds ts ws room at ≡ Ok r) × (starts tag.Rule ws at ≡ true)
-  rule-read few short n room at b r t h g s =
+  pub rule_read : kinds ≤ 32 → length ts ≤ 64 → (n room at b : ℕ) (r : Rule) → n + room ≡ 128 → 0 < room → GoodRule kinds ts r → Stands ws at (rule_words r) b → (rule kinds ts ws room at ≡ Ok r) × (starts tag.Rule ws at ≡ true)
+  rule_read few short n room at b r t h g s =
       let nl = length r.left in
       let nr = length r.right in
       let v = r.first * 65536 + nl * 256 + nr in
@@ -114,26 +114,26 @@ module _ (kinds : ℕ) (ts : List Link) (ws : List ℕ) where
       let ys = map (tagged tag.Step) r.right in
       let k = back ws at b (tagged tag.Rule v ∷ []) (xs ++ ys) s in
       let right : Stands ws (at + 1 + nl) ys b = rw (length-map r.left (tagged tag.Step)) at (back ws (at + 1) b xs ys k) in (
-        rule-is kinds ts ws room at v (word_read tag.Rule ws at v (stands_stood tag.Rule ws at b v (xs ++ ys) w s)) h (rw vl g.left_short) (rw vr g.right_short) (rw vf g.known)
+        rule_is kinds ts ws room at v (word_read tag.Rule ws at v (stands_stood tag.Rule ws at b v (xs ++ ys) w s)) h (rw vl g.left_short) (rw vr g.right_short) (rw vf g.known)
             ∙ ap (λ a. paths ts ws at a (v / 256 % 256) (v % 256)) vf
             ∙ ap (λ a. paths ts ws at r.first a (v % 256)) vl
             ∙ ap (λ a. paths ts ws at r.first nl a) vr
-            ∙ paths-made at g.end r
-            (path-made ts ws r.left r.first g.end (at + 1) (at + 1 + length xs) (omega arith) g.left_walks (front ws (at + 1) b xs ys k))
-            (path-made ts ws r.right r.first g.end (at + 1 + nl) b (omega arith) g.right_walks right),
+            ∙ paths_made at g.end r
+            (path_made ts ws r.left r.first g.end (at + 1) (at + 1 + length xs) (omega arith) g.left_walks (front ws (at + 1) b xs ys k))
+            (path_made ts ws r.right r.first g.end (at + 1 + nl) b (omega arith) g.right_walks right),
         stands_starts tag.Rule ws at b v (xs ++ ys) (omega arith) s,
       )
 
 -- kind maps
 module _ (total kinds : ℕ) (ws : List ℕ) where
-  pub kind-stands : (n room at k : ℕ) → n + room ≡ total → kind_mapped total kinds ws room at ≡ Ok k → Stands ws at (kind_words n k) (at + 1)
-  kind-stands n room at k h e =
+  pub kind_stands : (n room at k : ℕ) → n + room ≡ total → kind_mapped total kinds ws room at ≡ Ok k → Stands ws at (kind_words n k) (at + 1)
+  kind_stands n room at k h e =
       let r = kind_told total kinds ws room at k e in
       let q : r.fields ≡ n * 256 + k = omega (arith, r.numbered, r.is) in
       stood_stands tag.KindMap ws at (n * 256 + k) (word_told tag.KindMap ws at (n * 256 + k) (r.head ∙ ap Ok q))
 
-  pub kind-read : total ≤ 32 → kinds ≤ 32 → (n room at b k : ℕ) → n + room ≡ total → 0 < room → k < kinds → Stands ws at (kind_words n k) b → (kind_mapped total kinds ws room at ≡ Ok k) × (ltb 0 room ≡ true)
-  kind-read few small n room at b k t h g s =
+  pub kind_read : total ≤ 32 → kinds ≤ 32 → (n room at b k : ℕ) → n + room ≡ total → 0 < room → k < kinds → Stands ws at (kind_words n k) b → (kind_mapped total kinds ws room at ≡ Ok k) × (ltb 0 room ≡ true)
+  kind_read few small n room at b k t h g s =
       let v = n * 256 + k in
       let w : v < 65536 = omega arith in
       let o : v % 256 ≡ k = omega arith in
@@ -152,8 +152,8 @@ pub record MapRead (ss : List Link) (km : List ℕ) (ts : List Link) (ws : List 
   pub good : GoodMap ss km ts n q
 
 module _ (ss : List Link) (km : List ℕ) (ts : List Link) (ws : List ℕ) where
-  pub map-told : (n room at : ℕ) (q : List ℕ) → n + room ≡ length ss → link_mapped ss km ts ws room at ≡ Ok q → MapRead ss km ts ws n at q
-  map-told n room at q h e =
+  pub map_told : (n room at : ℕ) (q : List ℕ) → n + room ≡ length ss → link_mapped ss km ts ws room at ≡ Ok q → MapRead ss km ts ws n at q
+  map_told n room at q h e =
       let x = then_ok (worded (word tag.LinkMap ws at)) (map_of ss km ts ws room at) q e in
       let v = x.0 in
       let m = v % 256 in
@@ -165,7 +165,7 @@ module _ (ss : List Link) (km : List ℕ) (ts : List Link) (ws : List ℕ) where
       let w = then_ok (path ts ws m begin (at + 1)) (arriving stop (at + m)) q z.1 in
       let d = if_ok (eqb w.0.1 stop) (Ok w.0.0) (Unjoined (at + m)) q w.2 in
       let same : q ≡ w.0.0 = ok_same d.1 in
-      let len : length w.0.0 ≡ m = path-length ts ws m begin (at + 1) w.0 w.1 in
+      let len : length w.0.0 ≡ m = path_length ts ws m begin (at + 1) w.0 w.1 in
       let short : m ≤ 64 = let t = y.0 in grind (arith, nat_tests) in
       let num : v / 256 ≡ n = let t = z.0 in grind (arith, nat_tests) in
       let meet : w.0.1 ≡ stop = let t = d.0 in grind (arith, nat_tests) in
@@ -174,10 +174,10 @@ module _ (ss : List Link) (km : List ℕ) (ts : List Link) (ws : List ℕ) where
       rw same (record {
         laid = rw (← fields, ← far) (join ws at (at + 1) (at + 1 + m) (tagged tag.LinkMap v ∷ []) (map (tagged tag.Step) w.0.0)
             (stood_stands tag.LinkMap ws at v (word_told tag.LinkMap ws at v (worded_ok (word tag.LinkMap ws at) v x.1)))
-            (path-stands ts ws m begin (at + 1) w.0 w.1));
+            (path_stands ts ws m begin (at + 1) w.0 w.1));
         good = record {
           short = omega arith;
-          walks = subst (λ k. Walks ts (begins ss km k) w.0.0 (stops ss km k)) num (subst (λ t. Walks ts begin w.0.0 t) meet (path-walks ts ws m begin (at + 1) w.0 w.1));
+          walks = subst (λ k. Walks ts (begins ss km k) w.0.0 (stops ss km k)) num (subst (λ t. Walks ts begin w.0.0 t) meet (path_walks ts ws m begin (at + 1) w.0 w.1));
         };
       })
 
@@ -193,7 +193,7 @@ module _ (ss : List Link) (km : List ℕ) (ts : List Link) (ws : List ℕ) where
         map_is_path ss km ts ws room at v (word_read tag.LinkMap ws at v (stands_stood tag.LinkMap ws at b v xs w s)) (rw o g.short) (rw d t)
             ∙ ap (λ a. then (path ts ws (v % 256) (begins ss km a) (at + 1)) (arriving (stops ss km a) (at + v % 256))) d
             ∙ ap (λ a. then (path ts ws a (begins ss km n) (at + 1)) (arriving (stops ss km n) (at + a))) o
-            ∙ ap (λ x. then x (arriving (stops ss km n) (at + m))) (path-made ts ws q (begins ss km n) (stops ss km n) (at + 1) b (omega arith) g.walks (back ws at b (tagged tag.LinkMap v ∷ []) xs s))
+            ∙ ap (λ x. then x (arriving (stops ss km n) (at + m))) (path_made ts ws q (begins ss km n) (stops ss km n) (at + 1) b (omega arith) g.walks (back ws at b (tagged tag.LinkMap v ∷ []) xs s))
             ∙ ap (λ c. cond c (Ok q) (Err (Unjoined (at + m)))) z,
         more_some room h,
       )

@@ -9,15 +9,15 @@ use Rattle.words.specs.Tags.{tagged, number}
 use Rattle.words.specs.Items.{sizes, one_word}
 use Rattle.words.specs.Numbered.{numbered, Each}
 use Rattle.words.proofs.Inverse.{then_ok}
-use Rattle.words.proofs.Items.{items-length, items-full, more_one}
-use Rattle.words.proofs.Laid.{ok_same, joined-numbered, each_all, all-each, numbered-length, items-stand, items-each, items-read, end_told, end_read}
+use Rattle.words.proofs.Items.{items_length, items_full, more_one}
+use Rattle.words.proofs.Laid.{ok_same, joined_numbered, each_all, all_each, numbered_length, items_stand, items_each, items_read, end_told, end_read}
 use Rattle.words.proofs.Single.{word_told, word_read}
 use Rattle.words.proofs.Standing.{Stands, join, front, back, stood_stands, stands_stood, stands_other, whole, itself}
 use Rattle.problems.specs.Problem.{Link, Rule, Problem, schema_of, schema, link, links, rule, rule_size, path_size, whole_schema, kind_mapped, link_mapped, read}
 use Rattle.problems.specs.Layout.{link_words, rule_words, kind_words, map_words, schema_words, before_end, layout, GoodLink, GoodSchema, GoodRule, GoodMap, WellFormed, ReadsLayouts, ReadsOnce}
 use Rattle.problems.proofs.Schemas.{schema_told}
 use Rattle.problems.proofs.Mapping.{kind_told, maps_length}
-use Rattle.problems.proofs.Laying.{link-stands, link-good, link-read, rule_told, rule-read, kind-stands, kind-read, map-told, map_read}
+use Rattle.problems.proofs.Laying.{link_stands, link_good, link_read, rule_told, rule_read, kind_stands, kind_read, map_told, map_read}
 use Rattle.problems.proofs.Problems.{ProblemRead, problem_told, problem_made}
 use Rattle.words.specs.declared.tags.Tag.TheVariants as tag
 
@@ -27,8 +27,8 @@ sizes_one (x ∷ xs) = let h = sizes_one xs in omega arith
 
 -- a schema
 module _ (side : ℕ) (ws : List ℕ) (at k : ℕ) (ls : List Link) where
-  schema-laid : whole_schema side ws at ≡ Ok (k, ls) → Stands ws at (schema_words side k ls) (at + 1 + length ls) × GoodSchema k ls
-  schema-laid e =
+  schema_laid : whole_schema side ws at ≡ Ok (k, ls) → Stands ws at (schema_words side k ls) (at + 1 + length ls) × GoodSchema k ls
+  schema_laid e =
       let a = then_ok (schema side ws at) (λ k. then (links k ws (at + 1)) (λ ls. Ok (k, ls))) (k, ls) e in
       let b = then_ok (links a.0 ws (at + 1)) (λ ls. Ok (a.0, ls)) (k, ls) a.2 in
       let h : (k, ls) ≡ (a.0, b.0) = ok_same b.2 in
@@ -37,20 +37,20 @@ module _ (side : ℕ) (ws : List ℕ) (at k : ℕ) (ls : List Link) where
       let l : links k ws (at + 1) ≡ Ok ls = ap (λ j. links j ws (at + 1)) (sym p) ∙ b.1 ∙ ap Ok q in
       let r = schema_told side ws at k (a.1 ∙ ap Ok p) in
       let more : ℕ → ℕ → Bool = λ room p. starts tag.Link ws p in
-      let z = items-stand one_word more (link k ws) ws 64 (λ _. link_words) (λ _. GoodLink k) (link-stands k ws) 64 0 (at + 1) ls refl l in
+      let z = items_stand one_word more (link k ws) ws 64 (λ _. link_words) (λ _. GoodLink k) (link_stands k ws) 64 0 (at + 1) ls refl l in
       let c : at + 1 + sizes one_word ls ≡ at + 1 + length ls = ap (λ j. at + 1 + j) (sizes_one ls) in (
-        rw (← c, joined-numbered link_words 0 ls) (join ws at (at + 1) (at + 1 + sizes one_word ls) (tagged tag.Schema (side * 256 + k) ∷ []) (numbered (λ _. link_words) 0 ls)
+        rw (← c, joined_numbered link_words 0 ls) (join ws at (at + 1) (at + 1 + sizes one_word ls) (tagged tag.Schema (side * 256 + k) ∷ []) (numbered (λ _. link_words) 0 ls)
             (stood_stands tag.Schema ws at (side * 256 + k) (word_told tag.Schema ws at (side * 256 + k) r.head)) z),
         record {
           some = r.some;
           few = r.few;
-          few_links = items-length one_word more (link k ws) 64 (at + 1) ls l;
-          known = each_all (GoodLink k) 0 ls (items-each one_word more (link k ws) ws 64 (λ _. link_words) (λ _. GoodLink k) (link-good k ws) 64 0 (at + 1) ls refl l);
+          few_links = items_length one_word more (link k ws) 64 (at + 1) ls l;
+          known = each_all (GoodLink k) 0 ls (items_each one_word more (link k ws) ws 64 (λ _. link_words) (λ _. GoodLink k) (link_good k ws) 64 0 (at + 1) ls refl l);
         },
       )
 
-  kinds-pass : (v : ℕ) → v / 256 ≡ side → 0 < v % 256 → v % 256 ≤ 32 → schema_of side at v ≡ Ok (v % 256)
-  kinds-pass v a b d = grind (arith, nat_tests)
+  kinds_pass : (v : ℕ) → v / 256 ≡ side → 0 < v % 256 → v % 256 ≤ 32 → schema_of side at v ≡ Ok (v % 256)
+  kinds_pass v a b d = grind (arith, nat_tests)
 
   schema_read : side < 256 → GoodSchema k ls → Stands ws at (schema_words side k ls) (at + 1 + length ls) → starts tag.Link ws (at + 1 + length ls) ≡ false → whole_schema side ws at ≡ Ok (k, ls)
   schema_read h g s z =
@@ -59,11 +59,11 @@ module _ (side : ℕ) (ws : List ℕ) (at k : ℕ) (ls : List Link) where
       let d : v / 256 ≡ side = omega (arith, g.few) in
       let m : v % 256 ≡ k = omega (arith, g.few) in
       let b = at + 1 + length ls in
-      let l : Stands ws (at + 1) (numbered (λ _. link_words) 0 ls) b = rw (joined-numbered link_words 0 ls) at (back ws at b (tagged tag.Schema v ∷ []) (flat_map link_words ls) s) in
+      let l : Stands ws (at + 1) (numbered (λ _. link_words) 0 ls) b = rw (joined_numbered link_words 0 ls) at (back ws at b (tagged tag.Schema v ∷ []) (flat_map link_words ls) s) in
       ap (λ r. then (then (worded r) (schema_of side at)) (λ k. then (links k ws (at + 1)) (λ ls. Ok (k, ls)))) (word_read tag.Schema ws at v (stands_stood tag.Schema ws at b v (flat_map link_words ls) w s))
-      ∙ ap (λ r. then r (λ k. then (links k ws (at + 1)) (λ ls. Ok (k, ls)))) (kinds-pass v d (omega (arith, g.some)) (omega (arith, g.few)) ∙ ap Ok m)
-      ∙ ap (λ r. then r (λ ls. Ok (k, ls))) (items-read one_word (λ room p. starts tag.Link ws p) (link k ws) ws 64 (λ _. link_words) (λ _. GoodLink k) (λ n x. refl) (link-read k ws g.few)
-      64 0 (at + 1) b ls refl g.few_links (all-each (GoodLink k) 0 ls g.known) l z)
+      ∙ ap (λ r. then r (λ k. then (links k ws (at + 1)) (λ ls. Ok (k, ls)))) (kinds_pass v d (omega (arith, g.some)) (omega (arith, g.few)) ∙ ap Ok m)
+      ∙ ap (λ r. then r (λ ls. Ok (k, ls))) (items_read one_word (λ room p. starts tag.Link ws p) (link k ws) ws 64 (λ _. link_words) (λ _. GoodLink k) (λ n x. refl) (link_read k ws g.few)
+      64 0 (at + 1) b ls refl g.few_links (all_each (GoodLink k) 0 ls g.known) l z)
 
 pub read_layout : (ws : List ℕ) (p : Problem) → read ws ≡ Ok p → (ws ≡ layout p) × WellFormed p
 read_layout ws p e =
@@ -80,12 +80,12 @@ read_layout ws p e =
     let p5 = p4 + sizes path_size p.link_map in
     let starting : ℕ → ℕ → Bool = λ room q. starts tag.Rule ws q in
     let left : ℕ → ℕ → Bool = λ room q. ltb 0 room in
-    let a = schema-laid 0 ws 0 sk ss r.sourced in
-    let b = schema-laid 1 ws p1 tk ts r.targeted in
-    let c : Stands ws p2 (flat_map rule_words p.rules) p3 = rw (joined-numbered rule_words 0 p.rules)
-    (items-stand rule_size starting (rule tk ts ws) ws 128 (λ _. rule_words) (λ _. GoodRule tk ts) (λ n room q x t h. (rule_told tk ts ws room q x h).laid) 128 0 p2 p.rules refl r.ruled) in
-    let d = items-stand one_word left (kind_mapped sk tk ws) ws sk kind_words (λ _ k. k < tk) (kind-stands sk tk ws) sk 0 p3 km (zero-add sk) r.kinded in
-    let f = items-stand path_size left (link_mapped ss km ts ws) ws (length ss) map_words (GoodMap ss km ts) (λ n room q x t h. (map-told ss km ts ws n room q x t h).laid) (length ss) 0 p4 p.link_map (zero-add (length ss)) r.linked in
+    let a = schema_laid 0 ws 0 sk ss r.sourced in
+    let b = schema_laid 1 ws p1 tk ts r.targeted in
+    let c : Stands ws p2 (flat_map rule_words p.rules) p3 = rw (joined_numbered rule_words 0 p.rules)
+    (items_stand rule_size starting (rule tk ts ws) ws 128 (λ _. rule_words) (λ _. GoodRule tk ts) (λ n room q x t h. (rule_told tk ts ws room q x h).laid) 128 0 p2 p.rules refl r.ruled) in
+    let d = items_stand one_word left (kind_mapped sk tk ws) ws sk kind_words (λ _ k. k < tk) (kind_stands sk tk ws) sk 0 p3 km (zero-add sk) r.kinded in
+    let f = items_stand path_size left (link_mapped ss km ts ws) ws (length ss) map_words (GoodMap ss km ts) (λ n room q x t h. (map_told ss km ts ws n room q x t h).laid) (length ss) 0 p4 p.link_map (zero-add (length ss)) r.linked in
     let A = schema_words 0 sk ss in
     let B = schema_words 1 tk ts in
     let C = flat_map rule_words p.rules in
@@ -100,12 +100,12 @@ read_layout ws p e =
       record {
         source = a.1;
         target = b.1;
-        few_rules = items-length rule_size starting (rule tk ts ws) 128 p2 p.rules r.ruled;
-        rules = each_all (GoodRule tk ts) 0 p.rules (items-each rule_size starting (rule tk ts ws) ws 128 (λ _. rule_words) (λ _. GoodRule tk ts) (λ n room q x t h. (rule_told tk ts ws room q x h).good) 128 0 p2 p.rules refl r.ruled);
+        few_rules = items_length rule_size starting (rule tk ts ws) 128 p2 p.rules r.ruled;
+        rules = each_all (GoodRule tk ts) 0 p.rules (items_each rule_size starting (rule tk ts ws) ws 128 (λ _. rule_words) (λ _. GoodRule tk ts) (λ n room q x t h. (rule_told tk ts ws room q x h).good) 128 0 p2 p.rules refl r.ruled);
         kinds_full = maps_length sk tk ws p3 km r.kinded;
-        kinds = each_all (λ k. k < tk) 0 km (items-each one_word left (kind_mapped sk tk ws) ws sk kind_words (λ _ k. k < tk) (λ n room q k t h. (kind_told sk tk ws room q k h).known) sk 0 p3 km (zero-add sk) r.kinded);
-        maps_full = items-full path_size left (link_mapped ss km ts ws) (λ j q. more_one j) (length ss) p4 p.link_map r.linked;
-        maps = items-each path_size left (link_mapped ss km ts ws) ws (length ss) map_words (GoodMap ss km ts) (λ n room q x t h. (map-told ss km ts ws n room q x t h).good) (length ss) 0 p4 p.link_map (zero-add (length ss)) r.linked;
+        kinds = each_all (λ k. k < tk) 0 km (items_each one_word left (kind_mapped sk tk ws) ws sk kind_words (λ _ k. k < tk) (λ n room q k t h. (kind_told sk tk ws room q k h).known) sk 0 p3 km (zero-add sk) r.kinded);
+        maps_full = items_full path_size left (link_mapped ss km ts ws) (λ j q. more_one j) (length ss) p4 p.link_map r.linked;
+        maps = items_each path_size left (link_mapped ss km ts ws) ws (length ss) map_words (GoodMap ss km ts) (λ n room q x t h. (map_told ss km ts ws n room q x t h).good) (length ss) 0 p4 p.link_map (zero-add (length ss)) r.linked;
       },
     )
 
@@ -141,11 +141,11 @@ map_long : (n : ℕ) (q : List ℕ) → length (map_words n q) ≡ path_size q
 map_long n q = let h = length-map q (tagged tag.Step) in omega arith
 
 joined_long : {X : Type 0} (size : X → ℕ) (lay : X → List ℕ) → ((n : ℕ) (x : X) → length (lay x) ≡ size x) → (xs : List X) → length (flat_map lay xs) ≡ sizes size xs
-joined_long size lay len xs = ap length (joined-numbered lay 0 xs) ∙ numbered-length size (λ _. lay) len 0 xs
+joined_long size lay len xs = ap length (joined_numbered lay 0 xs) ∙ numbered_length size (λ _. lay) len 0 xs
 
 module _ (ws : List ℕ) (p : Problem) (w : WellFormed p) (all : Stands ws 0 (layout p) (length ws)) where
-  layout-parts : ProblemRead ws p
-  layout-parts =
+  layout_parts : ProblemRead ws p
+  layout_parts =
       let sk = p.source_kinds in
       let ss = p.source_links in
       let tk = p.target_kinds in
@@ -166,8 +166,8 @@ module _ (ws : List ℕ) (p : Problem) (w : WellFormed p) (all : Stands ws 0 (la
       let la : length A ≡ p1 = let h = joined_long one_word link_words (λ n x. refl) ss in let k = sizes_one ss in omega arith in
       let lb : length B ≡ 1 + length ts = let h = joined_long one_word link_words (λ n x. refl) ts in let k = sizes_one ts in omega arith in
       let lc : length C ≡ sizes rule_size rs = joined_long rule_size rule_words rule_long rs in
-      let ld : length D ≡ sizes one_word km = numbered-length one_word kind_words (λ n x. refl) 0 km in
-      let lf : length F ≡ sizes path_size lm = numbered-length path_size map_words map_long 0 lm in
+      let ld : length D ≡ sizes one_word km = numbered_length one_word kind_words (λ n x. refl) 0 km in
+      let lf : length F ≡ sizes path_size lm = numbered_length path_size map_words map_long 0 lm in
       let le : length (before_end p) ≡ p5 =
       let h = length-append A (B ++ (C ++ (D ++ F))) in let i = length-append B (C ++ (D ++ F)) in let j = length-append C (D ++ F) in let k = length-append D F in omega arith in
       let short : p5 < 268435456 =
@@ -190,12 +190,12 @@ module _ (ws : List ℕ) (p : Problem) (w : WellFormed p) (all : Stands ws 0 (la
       record {
         sourced = schema_read 0 ws 0 sk ss (omega arith) w.source a0 (stands_other tag.Link tag.Schema ws p1 p5 (1 * 256 + tk) _ (omega (arith, w.target.few)) (λ q. omega arith) a1);
         targeted = schema_read 1 ws p1 tk ts (omega arith) w.target b0 (rules_no_link ws p2 p5 tk ts rs km F w.target.few w.rules some w.kinds b1);
-        ruled = items-read rule_size (λ room q. starts tag.Rule ws q) (rule tk ts ws) ws 128 (λ _. rule_words) (λ _. GoodRule tk ts) rule_long (rule-read tk ts ws w.target.few w.target.few_links)
-            128 0 p2 p3 rs refl w.few_rules (all-each (GoodRule tk ts) 0 rs w.rules) (rw (joined-numbered rule_words 0 rs) at c0)
+        ruled = items_read rule_size (λ room q. starts tag.Rule ws q) (rule tk ts ws) ws 128 (λ _. rule_words) (λ _. GoodRule tk ts) rule_long (rule_read tk ts ws w.target.few w.target.few_links)
+            128 0 p2 p3 rs refl w.few_rules (all_each (GoodRule tk ts) 0 rs w.rules) (rw (joined_numbered rule_words 0 rs) at c0)
             (kinds_other tag.Rule ws p3 p5 0 tk km F (λ q. omega arith) w.target.few (omega arith) some w.kinds c1);
-        kinded = items-read one_word (λ left q. ltb 0 left) (kind_mapped sk tk ws) ws sk kind_words (λ _ k. k < tk) (λ n x. refl) (kind-read sk tk ws w.source.few w.target.few)
-            sk 0 p3 p4 km (zero-add sk) (omega (arith, w.kinds_full)) (all-each (λ k. k < tk) 0 km w.kinds) d0 (no (sk - length km) (omega (arith, w.kinds_full)));
-        linked = items-read path_size (λ left q. ltb 0 left) (link_mapped ss km ts ws) ws (length ss) map_words (GoodMap ss km ts) map_long (map_read ss km ts ws w.source.few_links w.target.few_links)
+        kinded = items_read one_word (λ left q. ltb 0 left) (kind_mapped sk tk ws) ws sk kind_words (λ _ k. k < tk) (λ n x. refl) (kind_read sk tk ws w.source.few w.target.few)
+            sk 0 p3 p4 km (zero-add sk) (omega (arith, w.kinds_full)) (all_each (λ k. k < tk) 0 km w.kinds) d0 (no (sk - length km) (omega (arith, w.kinds_full)));
+        linked = items_read path_size (λ left q. ltb 0 left) (link_mapped ss km ts ws) ws (length ss) map_words (GoodMap ss km ts) map_long (map_read ss km ts ws w.source.few_links w.target.few_links)
             (length ss) 0 p4 p5 lm (zero-add (length ss)) (omega (arith, w.maps_full)) w.maps f0 (no (length ss - length lm) (omega (arith, w.maps_full)));
         closed = end_read ws p5 (stands_stood tag.End ws p5 (length ws) p5 [] short s1) (let q = s1.far in omega arith);
       }
@@ -203,7 +203,7 @@ module _ (ws : List ℕ) (p : Problem) (w : WellFormed p) (all : Stands ws 0 (la
 pub reads_layouts : ReadsLayouts
 reads_layouts ws p = (
   read_layout ws p,
-  λ h. let s : Stands ws 0 (layout p) (length ws) = rw h.0 (itself (layout p)) in problem_made ws p (layout-parts ws p h.1 s),
+  λ h. let s : Stands ws 0 (layout p) (length ws) = rw h.0 (itself (layout p)) in problem_made ws p (layout_parts ws p h.1 s),
 )
 
 pub reads_once : ReadsOnce

@@ -8,8 +8,8 @@ use Rattle.words.proofs.Single.{word_told}
 use Rattle.words.specs.Items.{behind, one_word}
 use Rattle.problems.specs.Problem.{Link, path, kind_of, kind_mapped, kind_maps, begins, stops, arriving, map_of, link_mapped, path_size}
 use Rattle.problems.specs.Seen.{reached, Mapped, kinds_got}
-use Rattle.words.proofs.Items.{items_at, items-full, more_one, places_one}
-use Rattle.problems.proofs.Paths.{path-length, reached-ok, both}
+use Rattle.words.proofs.Items.{items_at, items_full, more_one, places_one}
+use Rattle.problems.proofs.Paths.{path_length, reached_ok, both}
 use Rattle.words.specs.declared.tags.Tag.TheVariants as tag
 
 pub record KindRead (n kinds : ℕ) (ws : List ℕ) (left at k : ℕ) : Type 0 where
@@ -30,7 +30,7 @@ kind_told n kinds ws left at k e =
     record { fields = v; head = worded_ok (word tag.KindMap ws at) v x.1; numbered = grind (arith, nat_tests); is = q; known = omega arith }
 
 pub maps_length : (n kinds : ℕ) (ws : List ℕ) (at : ℕ) (km : List ℕ) → kind_maps n kinds ws at ≡ Ok km → length km ≡ n
-maps_length n kinds ws at km e = items-full one_word (λ left p. ltb 0 left) (kind_mapped n kinds ws) (λ m p. more_one m) n at km e
+maps_length n kinds ws at km e = items_full one_word (λ left p. ltb 0 left) (kind_mapped n kinds ws) (λ m p. more_one m) n at km e
 
 pub map_at : (n kinds : ℕ) (ws : List ℕ) (at k : ℕ) → Mapped n kinds ws at → k < n → KindRead n kinds ws (n - k) (at + k) (get_or (kinds_got n kinds ws at) k 0)
 map_at n kinds ws at k m h =
@@ -59,8 +59,8 @@ pub map_code : (ss : List Link) (km : List ℕ) (ts : List Link) (ws : List ℕ)
     → reached (path ts ws (v % 256) begin (at + 1)) ≡ Ok last → last ≡ end
     → Ok (at + 1 + v % 256) ≡ behind path_size at (link_mapped ss km ts ws left at)
 map_code ss km ts ws left at v begin end last links e h n ln a b r d =
-    let x = reached-ok ts ws (path ts ws (v % 256) begin (at + 1)) last r in
-    let l = path-length ts ws (v % 256) begin (at + 1) x.0 x.1 in
+    let x = reached_ok ts ws (path ts ws (v % 256) begin (at + 1)) last r in
+    let l = path_length ts ws (v % 256) begin (at + 1) x.0 x.1 in
     let z : eqb x.0.1 (stops ss km (v / 256)) ≡ true = let s : x.0.1 ≡ stops ss km (v / 256) = x.2 ∙ d ∙ b in grind (arith, nat_tests) in
     sym (
     ap (behind path_size at) (map_is_path ss km ts ws left at v e h (n ∙ sym ln))

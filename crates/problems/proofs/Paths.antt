@@ -79,21 +79,21 @@ left_one : (n k : ℕ) → k < n → n - k ≡ suc (n - (k + 1))
 left_one n k h = omega arith
 
 module _ (ts : List Link) (ws : List ℕ) where
-  pub path-step : (n k kind to p g : ℕ) → k < n → step ts ws kind p ≡ Ok g → to ≡ (get_or ts g no_link).to
+  pub path_step : (n k kind to p g : ℕ) → k < n → step ts ws kind p ≡ Ok g → to ≡ (get_or ts g no_link).to
       → reached (path ts ws (n - (k + 1)) to (p + 1)) ≡ reached (path ts ws (n - k) kind p)
-  path-step n k kind to p g h e q =
+  path_step n k kind to p g h e q =
       ap (λ t. reached (path ts ws (n - (k + 1)) t (p + 1))) q
       ∙ sym (ap (λ m. reached (path ts ws m kind p)) (left_one n k h)
       ∙ ap (λ r. reached (then r (λ g. then (path ts ws (n - (k + 1)) (get_or ts g no_link).to (p + 1)) (λ x. Ok (g ∷ x.0, x.1))))) e
       ∙ reached_more g (path ts ws (n - (k + 1)) (get_or ts g no_link).to (p + 1)))
 
-  pub path-stop : (n k kind p : ℕ) (y : SchemaFault) → k < n → step ts ws kind p ≡ Err y → reached (path ts ws (n - k) kind p) ≡ Err y
-  path-stop n k kind p y h e =
+  pub path_stop : (n k kind p : ℕ) (y : SchemaFault) → k < n → step ts ws kind p ≡ Err y → reached (path ts ws (n - k) kind p) ≡ Err y
+  path_stop n k kind p y h e =
       ap (λ m. reached (path ts ws m kind p)) (left_one n k h)
       ∙ ap (λ r. reached (then r (λ g. then (path ts ws (n - (k + 1)) (get_or ts g no_link).to (p + 1)) (λ x. Ok (g ∷ x.0, x.1))))) e
 
-  pub step-told : (kind p g : ℕ) → step ts ws kind p ≡ Ok g → (word tag.Step ws p ≡ Ok g) × (g < length ts) × ((get_or ts g no_link).from ≡ kind)
-  step-told kind p g e =
+  pub step_told : (kind p g : ℕ) → step ts ws kind p ≡ Ok g → (word tag.Step ws p ≡ Ok g) × (g < length ts) × ((get_or ts g no_link).from ≡ kind)
+  step_told kind p g e =
       let x = then_ok (worded (word tag.Step ws p)) (step_of ts kind p) g e in
       let y = if_ok (ltb x.0 (length ts)) (cond (eqb (get_or ts x.0 no_link).from kind) (Ok x.0) (Err (Unjoined p))) (Unknown p) g x.2 in
       let z = if_ok (eqb (get_or ts x.0 no_link).from kind) (Ok x.0) (Unjoined p) g y.1 in
@@ -103,30 +103,30 @@ module _ (ts : List Link) (ws : List ℕ) where
       (worded_ok (word tag.Step ws p) x.0 x.1 ∙ ap Ok s, rw s at a, ap (λ h. (get_or ts h no_link).from) (sym s) ∙ b)
 
   -- an accepted path, its first step and its rest
-  pub path-split : (n kind p : ℕ) (x : List ℕ × ℕ) → path ts ws (suc n) kind p ≡ Ok x
+  pub path_split : (n kind p : ℕ) (x : List ℕ × ℕ) → path ts ws (suc n) kind p ≡ Ok x
       → (g : ℕ) × (y : List ℕ × ℕ) × (step ts ws kind p ≡ Ok g) × (path ts ws n (get_or ts g no_link).to (p + 1) ≡ Ok y) × (x ≡ (g ∷ y.0, y.1))
-  path-split n kind p x e =
+  path_split n kind p x e =
       let a = then_ok (step ts ws kind p) (λ g. then (path ts ws n (get_or ts g no_link).to (p + 1)) (λ x. Ok (g ∷ x.0, x.1))) x e in
       let b = then_ok (path ts ws n (get_or ts a.0 no_link).to (p + 1)) (λ x. Ok (a.0 ∷ x.0, x.1)) x a.2 in
       (a.0, b.0, a.1, b.1, let q = b.2 in cc)
 
-  pub path-length : (n kind p : ℕ) (x : List ℕ × ℕ) → path ts ws n kind p ≡ Ok x → length x.0 ≡ n
-  path-length zero kind p x e = let h : x ≡ ([], kind) = cc in ap (λ t. length t.0) h
-  path-length (suc n) kind p x e =
-      let s = path-split n kind p x e in
-      ap (λ t. length t.0) s.4 ∙ ap suc (path-length n (get_or ts s.0 no_link).to (p + 1) s.1 s.3)
+  pub path_length : (n kind p : ℕ) (x : List ℕ × ℕ) → path ts ws n kind p ≡ Ok x → length x.0 ≡ n
+  path_length zero kind p x e = let h : x ≡ ([], kind) = cc in ap (λ t. length t.0) h
+  path_length (suc n) kind p x e =
+      let s = path_split n kind p x e in
+      ap (λ t. length t.0) s.4 ∙ ap suc (path_length n (get_or ts s.0 no_link).to (p + 1) s.1 s.3)
 
   pub path_inside : (n kind p : ℕ) (x : List ℕ × ℕ) → p ≤ length ws → path ts ws n kind p ≡ Ok x → p + n ≤ length ws
   path_inside zero kind p x h e = omega arith
   path_inside (suc n) kind p x h e =
-      let s = path-split n kind p x e in
-      let w = (word_told tag.Step ws p s.0 (step-told kind p s.0 s.2).0).inside in
+      let s = path_split n kind p x e in
+      let w = (word_told tag.Step ws p s.0 (step_told kind p s.0 s.2).0).inside in
       let k = path_inside n (get_or ts s.0 no_link).to (p + 1) s.1 (omega arith) s.3 in
       omega arith
 
-  pub reached-ok : (r : Result (List ℕ × ℕ) SchemaFault) (k : ℕ) → reached r ≡ Ok k → (x : List ℕ × ℕ) × (r ≡ Ok x) × (x.1 ≡ k)
-  reached-ok (Ok x) k e = (x, refl, cc)
-  reached-ok (Err y) k e = absurd (err_ok e)
+  pub reached_ok : (r : Result (List ℕ × ℕ) SchemaFault) (k : ℕ) → reached r ≡ Ok k → (x : List ℕ × ℕ) × (r ≡ Ok x) × (x.1 ≡ k)
+  reached_ok (Ok x) k e = (x, refl, cc)
+  reached_ok (Err y) k e = absurd (err_ok e)
 
 pub link_known : (kinds : ℕ) (ws : List ℕ) (at n g v : ℕ) → Linked kinds ws at n → g < n → v ≡ get_or ws (at + g) 0 % 268435456 → (v / 256 < kinds) × (v % 256 < kinds)
 link_known kinds ws at n g v k h e =

@@ -11,7 +11,7 @@ use Rattle.words.specs.Items.{sized, one_word}
 use Rattle.problems.specs.Problem.{Link, schema_of, schema, link, links, whole_schema}
 use Rattle.problems.specs.Seen.{Linked}
 use Rattle.problems.specs.Shown.{seen}
-use Rattle.words.proofs.Items.{items-length}
+use Rattle.words.proofs.Items.{items_length}
 use Rattle.problems.proofs.Paths.{both}
 use Rattle.words.specs.declared.tags.Tag.TheVariants as tag
 
@@ -55,6 +55,6 @@ schema_seen side ws at s e =
     rw x.2 (record {
       linked = ap (λ k. sized (links k ws (at + 1))) p ∙ ap sized b.1 ∙ ap (λ l. Ok (length l)) (sym q);
       few_kinds = rw p (schema_told side ws at a.0 a.1).few;
-      few_links = rw q (items-length one_word (λ room p. starts tag.Link ws p) (link a.0 ws) 64 (at + 1) b.0 b.1);
+      few_links = rw q (items_length one_word (λ room p. starts tag.Link ws p) (link a.0 ws) 64 (at + 1) b.0 b.1);
       placed = refl;
     })

@@ -15,7 +15,7 @@ use Rattle.problems.specs.Problem.{Rule, Problem, rule_size, path_size, read}
 use Rattle.problems.specs.Problem as problem
 use Rattle.problems.specs.Shown.{told, outline_of}
 use Rattle.problems.specs.Tokens.{unless_refused, token_in, no_rule, rules_at, maps_at, rule_token, map_token}
-use Rattle.problems.proofs.Laying.{rule_told, map-told}
+use Rattle.problems.proofs.Laying.{rule_told, map_told}
 use Rattle.problems.proofs.Problems.{problem_told}
 use Rattle.problems.proofs.Layouts.{read_layout}
 use Rattle.problems.proofs.Accepting.{outline_ok}
@@ -23,14 +23,14 @@ use Rattle.words.specs.declared.tags.Tag.TheVariants as tag
 
 -- the first n places, as the code finds the i-th of them
 module _ (ws ps : List ℕ) (n i : ℕ) where
-  pub token-found : (r : Result Shown WordFault) → i < n → i < length ps → r ≡ token ws (get_or ps i 0) → unless_refused r ≡ token_in ws (take n ps) i
-  token-found r h k e =
+  pub token_found : (r : Result Shown WordFault) → i < n → i < length ps → r ≡ token ws (get_or ps i 0) → unless_refused r ≡ token_in ws (take n ps) i
+  token_found r h k e =
       let l = length-take n ps in
       let z : ltb i (length (take n ps)) ≡ true = let j : i < length (take n ps) = omega arith in grind (arith, nat_tests) in
       ap unless_refused (e ∙ ap (token ws) (sym (get_or-take n ps i 0 h))) ∙ sym (ap (λ b. cond b (unless_refused (token ws (get_or (take n ps) i 0))) None) z)
 
-  pub token-none : n ≤ i ⊎ length ps ≤ i → None ≡ token_in ws (take n ps) i
-  token-none h =
+  pub token_none : n ≤ i ⊎ length ps ≤ i → None ≡ token_in ws (take n ps) i
+  token_none h =
       let l = length-take n ps in
       let k : length (take n ps) ≤ i = ⊎_elim (λ a. omega arith) (λ a. omega arith) h in
       let z : ltb i (length (take n ps)) ≡ false = grind (arith, nat_tests) in
@@ -51,9 +51,9 @@ by_places size ws at i xs t each =
     by false e = refl
 
 module _ (ws : List ℕ) (p : Problem) (e : read ws ≡ Ok p) (i : ℕ) where
-  rule-there : i < length p.rules → token ws (get_or (places rule_size (rules_at p) p.rules) i 0)
+  rule_there : i < length p.rules → token ws (get_or (places rule_size (rules_at p) p.rules) i 0)
       ≡ Ok (rule (get_or p.rules i no_rule).first (map (tagged tag.Step) (get_or p.rules i no_rule).left) (map (tagged tag.Step) (get_or p.rules i no_rule).right) (get_or (places rule_size (rules_at p) p.rules) i 0))
-  rule-there h =
+  rule_there h =
       let q = get_or (places rule_size (rules_at p) p.rules) i 0 in
       let r = get_or p.rules i no_rule in
       let s = rule_told p.target_kinds p.target_links ws (128 - i) q r
@@ -67,9 +67,9 @@ module _ (ws : List ℕ) (p : Problem) (e : read ws ≡ Ok p) (i : ℕ) where
       rule_tokened ws q (q + rule_size r) v (map (tagged tag.Step) r.left) (map (tagged tag.Step) r.right) (omega (arith, g.known, g.left_short, g.right_short)) vl vr s.laid
       ∙ ap (λ f. Ok (rule f (map (tagged tag.Step) r.left) (map (tagged tag.Step) r.right) q)) vf
 
-  map-there : i < length p.link_map → token ws (get_or (places path_size (maps_at p) p.link_map) i 0)
+  map_there : i < length p.link_map → token ws (get_or (places path_size (maps_at p) p.link_map) i 0)
       ≡ Ok (link_map i (map (tagged tag.Step) (get_or p.link_map i [])) (get_or (places path_size (maps_at p) p.link_map) i 0))
-  map-there h =
+  map_there h =
       let ss = p.source_links in
       let km = p.kind_map in
       let ts = p.target_links in
@@ -78,7 +78,7 @@ module _ (ws : List ℕ) (p : Problem) (e : read ws ≡ Ok p) (i : ℕ) where
       let full = w.maps_full in
       let q = get_or (places path_size (maps_at p) p.link_map) i 0 in
       let g = get_or p.link_map i [] in
-      let s = map-told ss km ts ws i (length ss - i) q g (omega arith)
+      let s = map_told ss km ts ws i (length ss - i) q g (omega arith)
       (items_at path_size (λ left q. ltb 0 left) (problem.link_mapped ss km ts ws) (length ss) (maps_at p) i p.link_map [] (problem_told ws p e).linked h) in
       let short = s.good.short in
       let v = i * 256 + length g in
@@ -89,14 +89,14 @@ module _ (ws : List ℕ) (p : Problem) (e : read ws ≡ Ok p) (i : ℕ) where
 
 -- the places that the code keeps are those of the problem that was read
 module _ (ws : List ℕ) (f : Found) (t : told (Ok f) ≡ outline_of (read ws)) (i : ℕ) where
-  pub rule-kept : token_in ws (take f.rules f.rule_places) i ≡ rule_token (read ws) i
-  rule-kept =
+  pub rule_kept : token_in ws (take f.rules f.rule_places) i ≡ rule_token (read ws) i
+  rule_kept =
       let x = outline_ok (read ws) _ t in
       let same = ok_same (sym (t ∙ ap outline_of x.1)) in
-      ap (λ s. token_in ws s.rules i) same ∙ by_places rule_size ws (rules_at x.0) i x.0.rules _ (rule-there ws x.0 x.1 i) ∙ ap (λ r. rule_token r i) (sym x.1)
+      ap (λ s. token_in ws s.rules i) same ∙ by_places rule_size ws (rules_at x.0) i x.0.rules _ (rule_there ws x.0 x.1 i) ∙ ap (λ r. rule_token r i) (sym x.1)
 
-  pub map-kept : token_in ws (take f.source.links f.map_places) i ≡ map_token (read ws) i
-  map-kept =
+  pub map_kept : token_in ws (take f.source.links f.map_places) i ≡ map_token (read ws) i
+  map_kept =
       let x = outline_ok (read ws) _ t in
       let same = ok_same (sym (t ∙ ap outline_of x.1)) in
-      ap (λ s. token_in ws s.link_maps i) same ∙ by_places path_size ws (maps_at x.0) i x.0.link_map _ (map-there ws x.0 x.1 i) ∙ ap (λ r. map_token r i) (sym x.1)
+      ap (λ s. token_in ws s.link_maps i) same ∙ by_places path_size ws (maps_at x.0) i x.0.link_map _ (map_there ws x.0 x.1 i) ∙ ap (λ r. map_token r i) (sym x.1)

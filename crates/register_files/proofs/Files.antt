@@ -50,54 +50,54 @@ triple {a} {b} {c} {d} {ps} {qs} u v w = cc
 
 -- the parts, as the code reads them
 module _ (ws : List ℕ) where
-  counts-passed : (kinds : ℕ) → Counted ws kinds → behind_counts ws (counts_got ws) ≡ read ws
-  counts-passed kinds k = sym (ap (λ x. then x (behind_counts ws)) (known_read ws kinds k))
+  counts_passed : (kinds : ℕ) → Counted ws kinds → behind_counts ws (counts_got ws) ≡ read ws
+  counts_passed kinds k = sym (ap (λ x. then x (behind_counts ws)) (known_read ws kinds k))
 
-  outlined-ok : (at : ℕ) (r : Result (List Row) SchemaFault) (ps : List ℕ) (next : ℕ) → outlined span at r ≡ Ok (ps, next) → (ls : List Row) × (r ≡ Ok ls) × (places span at ls ≡ ps) × (at + sizes span ls ≡ next)
-  outlined-ok at (Ok ls) ps next e =
+  outlined_ok : (at : ℕ) (r : Result (List Row) SchemaFault) (ps : List ℕ) (next : ℕ) → outlined span at r ≡ Ok (ps, next) → (ls : List Row) × (r ≡ Ok ls) × (places span at ls ≡ ps) × (at + sizes span ls ≡ next)
+  outlined_ok at (Ok ls) ps next e =
       let h : ◌≡◌ {A = List ℕ × ℕ} (places span at ls, at + sizes span ls) (ps, next) = cc in
       (ls, refl, ap (λ t. t.0) h, ap (λ t. t.1) h)
-  outlined-ok at (Err z) ps next e = absurd (err_ok e)
+  outlined_ok at (Err z) ps next e = absurd (err_ok e)
 
-  links-passed : (kinds next : ℕ) (ps : List ℕ) → Counted ws kinds → outlined span (1 + kinds) (links_of (counts_got ws) ws) ≡ Ok (ps, next)
+  links_passed : (kinds next : ℕ) (ps : List ℕ) → Counted ws kinds → outlined span (1 + kinds) (links_of (counts_got ws) ws) ≡ Ok (ps, next)
       → (ls : List Row) × (links_of (counts_got ws) ws ≡ Ok ls) × (places span (1 + kinds) ls ≡ ps) × (1 + length (counts_got ws) + sizes span ls ≡ next)
-  links-passed kinds next ps k e =
-      let x = outlined-ok (1 + kinds) (links_of (counts_got ws) ws) ps next e in
+  links_passed kinds next ps k e =
+      let x = outlined_ok (1 + kinds) (links_of (counts_got ws) ws) ps next e in
       (x.0, x.1, x.2, ap (λ n. 1 + n + sizes span x.0) (known_length ws kinds k) ∙ x.3)
 
-  ended-ok : (at : ℕ) (r : Result (List Row) SchemaFault) (next : ℕ) → ended span at r ≡ Ok next → (ls : List Row) × (r ≡ Ok ls) × (at + sizes span ls ≡ next)
-  ended-ok at (Ok ls) next e = (ls, refl, cc)
-  ended-ok at (Err z) next e = absurd (err_ok e)
+  ended_ok : (at : ℕ) (r : Result (List Row) SchemaFault) (next : ℕ) → ended span at r ≡ Ok next → (ls : List Row) × (r ≡ Ok ls) × (at + sizes span ls ≡ next)
+  ended_ok at (Ok ls) next e = (ls, refl, cc)
+  ended_ok at (Err z) next e = absurd (err_ok e)
 
-  past-links : (kinds next : ℕ) (ps : List ℕ) (k : Counted ws kinds) (e : outlined span (1 + kinds) (links_of (counts_got ws) ws) ≡ Ok (ps, next))
-      → then (landings_of (counts_got ws) ws next) (behind_landings ws (counts_got ws) (links-passed kinds next ps k e).0) ≡ read ws
-  past-links kinds next ps k e =
-      let x = links-passed kinds next ps k e in
+  past_links : (kinds next : ℕ) (ps : List ℕ) (k : Counted ws kinds) (e : outlined span (1 + kinds) (links_of (counts_got ws) ws) ≡ Ok (ps, next))
+      → then (landings_of (counts_got ws) ws next) (behind_landings ws (counts_got ws) (links_passed kinds next ps k e).0) ≡ read ws
+  past_links kinds next ps k e =
+      let x = links_passed kinds next ps k e in
       ap (λ p. then (landings_of (counts_got ws) ws p) (behind_landings ws (counts_got ws) x.0)) (sym x.3)
       ∙ sym (ap (λ r. then r (behind_links ws (counts_got ws))) x.1)
-      ∙ counts-passed kinds k
+      ∙ counts_passed kinds k
 
   -- behind the landings only the end is left
-  past-landings : (kinds next last : ℕ) (ps : List ℕ) (k : Counted ws kinds) (e : outlined span (1 + kinds) (links_of (counts_got ws) ws) ≡ Ok (ps, next))
+  past_landings : (kinds next last : ℕ) (ps : List ℕ) (k : Counted ws kinds) (e : outlined span (1 + kinds) (links_of (counts_got ws) ws) ≡ Ok (ps, next))
       (b : ended span next (landings_of (counts_got ws) ws next) ≡ Ok last)
-      → then (worded (end ws last)) (λ _. Ok (record { counts = counts_got ws; links = (links-passed kinds next ps k e).0; landings = (ended-ok next (landings_of (counts_got ws) ws next) last b).0 })) ≡ read ws
-  past-landings kinds next last ps k e b =
-      let x = links-passed kinds next ps k e in
-      let y = ended-ok next (landings_of (counts_got ws) ws next) last b in
+      → then (worded (end ws last)) (λ _. Ok (record { counts = counts_got ws; links = (links_passed kinds next ps k e).0; landings = (ended_ok next (landings_of (counts_got ws) ws next) last b).0 })) ≡ read ws
+  past_landings kinds next last ps k e b =
+      let x = links_passed kinds next ps k e in
+      let y = ended_ok next (landings_of (counts_got ws) ws next) last b in
       ap (λ p. then (worded (end ws p)) (λ _. Ok (record { counts = counts_got ws; links = x.0; landings = y.0 }))) (sym (ap (λ q. q + sizes span y.0) x.3 ∙ y.2))
       ∙ sym (ap (λ r. then r (behind_landings ws (counts_got ws) x.0)) y.1)
-      ∙ past-links kinds next ps k e
+      ∙ past_links kinds next ps k e
 
   pub all_read : (kinds next last p n : ℕ) (ps : List ℕ) → Counted ws kinds → outlined span (1 + kinds) (links_of (counts_got ws) ws) ≡ Ok (ps, next)
       → ended span next (landings_of (counts_got ws) ws next) ≡ Ok last → end ws last ≡ Ok p → length ps ≡ n → Ok (kinds, n, ps) ≡ outline_of (read ws)
   all_read kinds next last p n ps k e b d l =
-      let x = links-passed kinds next ps k e in
+      let x = links_passed kinds next ps k e in
       let g = known_length ws kinds k in
       let m : length x.0 ≡ n = sym (places_length x.0 (1 + kinds)) ∙ ap length x.2 ∙ l in
       let q : places span (1 + length (counts_got ws)) x.0 ≡ ps = ap (λ j. places span (1 + j) x.0) g ∙ x.2 in
       sym (ap (λ t. Ok (t.0, t.1, t.2)) (triple g m q))
-      ∙ sym (ap (λ r. outline_of (then (worded r) (λ _. Ok (record { counts = counts_got ws; links = x.0; landings = (ended-ok next (landings_of (counts_got ws) ws next) last b).0 })))) d)
-      ∙ ap outline_of (past-landings kinds next last ps k e b)
+      ∙ sym (ap (λ r. outline_of (then (worded r) (λ _. Ok (record { counts = counts_got ws; links = x.0; landings = (ended_ok next (landings_of (counts_got ws) ws next) last b).0 })))) d)
+      ∙ ap outline_of (past_landings kinds next last ps k e b)
 
 pub links_start : (ws : List ℕ) (kinds : ℕ) → Counted ws kinds
     → prepended [] (outlined span (1 + kinds) (items span (λ room p. starts tag.RegisterLink ws p) (link (counts_got ws) ws) 64 (1 + kinds))) ≡ outlined span (1 + kinds) (links_of (counts_got ws) ws)

@@ -13,8 +13,8 @@ use Rattle.words.specs.Tags.{tagged}
 use Rattle.register_files.specs.Layout.{link_words, landing_words, before_end, layout, GoodLink, GoodLanding, WellFormed, ReadsLayouts}
 use Rattle.words.proofs.Single.{Stood, word_told, word_read}
 use Rattle.register_files.proofs.Parts.{LinkRead, link_told, link_made, LandingRead, landing_told, landing_made, KindsRead, counts_told, counts_read, count_told, counted_told}
-use Rattle.words.proofs.Items.{run_length, sizes_one, items-length, none_left}
-use Rattle.words.proofs.Laid.{joined-numbered, each_all, all-each, numbered-length, items-stand, items-each, items-read, end_told, end_read}
+use Rattle.words.proofs.Items.{run_length, sizes_one, items_length, none_left}
+use Rattle.words.proofs.Laid.{joined_numbered, each_all, all_each, numbered_length, items_stand, items_each, items_read, end_told, end_read}
 use Rattle.register_files.proofs.Files.{FileRead, read_told, read_made}
 use Rattle.words.proofs.Standing.{Stands, join, front, back, stood_stands, stands_stood, stands_starts, stands_other, whole, itself}
 use Rattle.words.specs.declared.tags.Tag.{Tag}
@@ -30,100 +30,100 @@ map_numbered t n [] = refl
 map_numbered t n (v ∷ vs) = ap (λ ws. tagged t v ∷ ws) (map_numbered t (n + 1) vs)
 
 module _ (ws : List ℕ) (t : Tag) (f : ℕ → Result ℕ SchemaFault) (P : ℕ → Type 0) where
-  run-stands : ((p v : ℕ) → f p ≡ Ok v → Stands ws p (tagged t v ∷ []) (p + 1)) → (n p : ℕ) (vs : List ℕ) → run f n p ≡ Ok vs → Stands ws p (map (tagged t) vs) (p + n)
+  run_stands : ((p v : ℕ) → f p ≡ Ok v → Stands ws p (tagged t v ∷ []) (p + 1)) → (n p : ℕ) (vs : List ℕ) → run f n p ≡ Ok vs → Stands ws p (map (tagged t) vs) (p + n)
   unfolding run_words
-  run-stands each n p vs e =
+  run_stands each n p vs e =
       let q : sizes one_word vs ≡ n = sizes_one vs ∙ run_length f n p vs e in
-      rw (map_numbered t 0 vs, ← q) (items-stand one_word (λ left p. ltb 0 left) (λ left p. f p) ws n (run_words t) (λ _. P) (λ k room p v h. each p v) n 0 p vs (zero-add n) e)
+      rw (map_numbered t 0 vs, ← q) (items_stand one_word (λ left p. ltb 0 left) (λ left p. f p) ws n (run_words t) (λ _. P) (λ k room p v h. each p v) n 0 p vs (zero-add n) e)
 
-  run-all : ((p v : ℕ) → f p ≡ Ok v → P v) → (n p : ℕ) (vs : List ℕ) → run f n p ≡ Ok vs → All P vs
-  run-all each n p vs e = each_all P 0 vs (items-each one_word (λ left p. ltb 0 left) (λ left p. f p) ws n (run_words t) (λ _. P) (λ k room p v h. each p v) n 0 p vs (zero-add n) e)
+  run_all : ((p v : ℕ) → f p ≡ Ok v → P v) → (n p : ℕ) (vs : List ℕ) → run f n p ≡ Ok vs → All P vs
+  run_all each n p vs e = each_all P 0 vs (items_each one_word (λ left p. ltb 0 left) (λ left p. f p) ws n (run_words t) (λ _. P) (λ k room p v h. each p v) n 0 p vs (zero-add n) e)
 
-  run-read : ((p v : ℕ) → P v → Stands ws p (tagged t v ∷ []) (p + 1) → f p ≡ Ok v) → (vs : List ℕ) (p b : ℕ) → All P vs → Stands ws p (map (tagged t) vs) b → run f (length vs) p ≡ Ok vs
+  run_read : ((p v : ℕ) → P v → Stands ws p (tagged t v ∷ []) (p + 1) → f p ≡ Ok v) → (vs : List ℕ) (p b : ℕ) → All P vs → Stands ws p (map (tagged t) vs) b → run f (length vs) p ≡ Ok vs
   unfolding run_words
-  run-read each vs p b a s =
-      items-read one_word (λ left p. ltb 0 left) (λ left p. f p) ws (length vs) (run_words t) (λ _. P) (λ k v. refl)
+  run_read each vs p b a s =
+      items_read one_word (λ left p. ltb 0 left) (λ left p. f p) ws (length vs) (run_words t) (λ _. P) (λ k v. refl)
       (λ k room p b v h r q u. (each p v q (one_more p b v u), let z : 0 < room = r in grind (arith, nat_tests)))
-      (length vs) 0 p b vs (zero-add (length vs)) (omega arith) (all-each P 0 vs a) (rw (map_numbered t 0 vs) at s) (none_left (length vs) (length vs) (omega arith))
+      (length vs) 0 p b vs (zero-add (length vs)) (omega arith) (all_each P 0 vs a) (rw (map_numbered t 0 vs) at s) (none_left (length vs) (length vs) (omega arith))
     where
       one_more : (p b v : ℕ) → Stands ws p (tagged t v ∷ []) b → Stands ws p (tagged t v ∷ []) (p + 1)
       one_more p b v u = let q : b ≡ p + 1 = omega (arith, u.far) in rw q at u
 
 -- the records of a row
 module _ (ws : List ℕ) (m : ℕ) where
-  leads-stand : (n p : ℕ) (rs : List ℕ) → run (counted m ws) n p ≡ Ok rs → Stands ws p (map (tagged tag.Record) rs) (p + n)
-  leads-stand = run-stands ws tag.Record (counted m ws) (λ r. r < m) (λ p v e. stood_stands tag.Record ws p v (counted_told m ws p v e).0)
+  leads_stand : (n p : ℕ) (rs : List ℕ) → run (counted m ws) n p ≡ Ok rs → Stands ws p (map (tagged tag.Record) rs) (p + n)
+  leads_stand = run_stands ws tag.Record (counted m ws) (λ r. r < m) (λ p v e. stood_stands tag.Record ws p v (counted_told m ws p v e).0)
 
-  leads-good : (n p : ℕ) (rs : List ℕ) → run (counted m ws) n p ≡ Ok rs → All (λ r. r < m) rs
-  leads-good = run-all ws tag.Record (counted m ws) (λ r. r < m) (λ p v e. (counted_told m ws p v e).1)
+  leads_good : (n p : ℕ) (rs : List ℕ) → run (counted m ws) n p ≡ Ok rs → All (λ r. r < m) rs
+  leads_good = run_all ws tag.Record (counted m ws) (λ r. r < m) (λ p v e. (counted_told m ws p v e).1)
 
-  lead-read : m ≤ 65536 → (p v : ℕ) → v < m → Stands ws p (tagged tag.Record v ∷ []) (p + 1) → counted m ws p ≡ Ok v
-  lead-read h p v k s = let q = word_read tag.Record ws p v (stands_stood tag.Record ws p (p + 1) v [] (omega arith) s) in grind (arith, nat_tests)
+  lead_read : m ≤ 65536 → (p v : ℕ) → v < m → Stands ws p (tagged tag.Record v ∷ []) (p + 1) → counted m ws p ≡ Ok v
+  lead_read h p v k s = let q = word_read tag.Record ws p v (stands_stood tag.Record ws p (p + 1) v [] (omega arith) s) in grind (arith, nat_tests)
 
-  leads-read : m ≤ 65536 → (rs : List ℕ) (p b : ℕ) → All (λ r. r < m) rs → Stands ws p (map (tagged tag.Record) rs) b → run (counted m ws) (length rs) p ≡ Ok rs
-  leads-read h = run-read ws tag.Record (counted m ws) (λ r. r < m) (lead-read h)
+  leads_read : m ≤ 65536 → (rs : List ℕ) (p b : ℕ) → All (λ r. r < m) rs → Stands ws p (map (tagged tag.Record) rs) b → run (counted m ws) (length rs) p ≡ Ok rs
+  leads_read h = run_read ws tag.Record (counted m ws) (λ r. r < m) (lead_read h)
 
 -- rows that begin with a tag
 module _ (ws : List ℕ) (t : Tag) (f : ℕ → ℕ → Result Row SchemaFault) (total : ℕ) (lay : Row → List ℕ) (P : ℕ → Row → Type 0) where
-  rows-stand : ((room at : ℕ) (l : Row) → f room at ≡ Ok l → Stands ws at (lay l) (at + span l)) → (at : ℕ) (ls : List Row) → items span (λ room p. starts t ws p) f total at ≡ Ok ls
+  rows_stand : ((room at : ℕ) (l : Row) → f room at ≡ Ok l → Stands ws at (lay l) (at + span l)) → (at : ℕ) (ls : List Row) → items span (λ room p. starts t ws p) f total at ≡ Ok ls
       → Stands ws at (flat_map lay ls) (at + sizes span ls)
-  rows-stand each at ls e = rw (joined-numbered lay 0 ls) (items-stand span (λ room p. starts t ws p) f ws total (λ _. lay) P (λ n room at l h. each room at l) total 0 at ls (zero-add total) e)
+  rows_stand each at ls e = rw (joined_numbered lay 0 ls) (items_stand span (λ room p. starts t ws p) f ws total (λ _. lay) P (λ n room at l h. each room at l) total 0 at ls (zero-add total) e)
 
-  rows-each : ((n room at : ℕ) (l : Row) → n + room ≡ total → f room at ≡ Ok l → P n l) → (at : ℕ) (ls : List Row) → items span (λ room p. starts t ws p) f total at ≡ Ok ls → Each P 0 ls
-  rows-each each at ls e = items-each span (λ room p. starts t ws p) f ws total (λ _. lay) P each total 0 at ls (zero-add total) e
+  rows_each : ((n room at : ℕ) (l : Row) → n + room ≡ total → f room at ≡ Ok l → P n l) → (at : ℕ) (ls : List Row) → items span (λ room p. starts t ws p) f total at ≡ Ok ls → Each P 0 ls
+  rows_each each at ls e = items_each span (λ room p. starts t ws p) f ws total (λ _. lay) P each total 0 at ls (zero-add total) e
 
-  rows-read : ((l : Row) → length (lay l) ≡ span l)
+  rows_read : ((l : Row) → length (lay l) ≡ span l)
       → ((n room at b : ℕ) (l : Row) → n + room ≡ total → 0 < room → P n l → Stands ws at (lay l) b → (f room at ≡ Ok l) × (starts t ws at ≡ true))
       → (at b : ℕ) (ls : List Row) → length ls ≤ total → Each P 0 ls → Stands ws at (flat_map lay ls) b → starts t ws b ≡ false → items span (λ room p. starts t ws p) f total at ≡ Ok ls
-  rows-read len each at b ls h a s z =
-      items-read span (λ room p. starts t ws p) f ws total (λ _. lay) P (λ _. len) each total 0 at b ls (zero-add total) h a (rw (joined-numbered lay 0 ls) at s) z
+  rows_read len each at b ls h a s z =
+      items_read span (λ room p. starts t ws p) f ws total (λ _. lay) P (λ _. len) each total 0 at b ls (zero-add total) h a (rw (joined_numbered lay 0 ls) at s) z
 
 -- links and landings
 module _ (cs ws : List ℕ) where
-  link-stands : (room at : ℕ) (l : Row) → link cs ws room at ≡ Ok l → Stands ws at (link_words l) (at + span l)
-  link-stands room at l e =
+  link_stands : (room at : ℕ) (l : Row) → link cs ws room at ≡ Ok l → Stands ws at (link_words l) (at + span l)
+  link_stands room at l e =
       let r = link_told cs ws room at l e in
       let n = run_length (counted (get_or cs l.to 0) ws) (get_or cs l.from 0) (at + 1) l.leads r.each in
       let q : at + 1 + get_or cs l.from 0 ≡ at + span l = omega arith in
       rw (← q) (join ws at (at + 1) (at + 1 + get_or cs l.from 0) (tagged tag.RegisterLink (l.from * 256 + l.to) ∷ []) (map (tagged tag.Record) l.leads)
       (stood_stands tag.RegisterLink ws at (l.from * 256 + l.to) (word_told tag.RegisterLink ws at (l.from * 256 + l.to) r.head))
-      (leads-stand ws (get_or cs l.to 0) (get_or cs l.from 0) (at + 1) l.leads r.each))
+      (leads_stand ws (get_or cs l.to 0) (get_or cs l.from 0) (at + 1) l.leads r.each))
 
-  link-good : (room at : ℕ) (l : Row) → link cs ws room at ≡ Ok l → GoodLink cs l
-  link-good room at l e =
+  link_good : (room at : ℕ) (l : Row) → link cs ws room at ≡ Ok l → GoodLink cs l
+  link_good room at l e =
       let r = link_told cs ws room at l e in
       record {
         from_known = r.from_known;
         to_known = r.to_known;
         full = run_length (counted (get_or cs l.to 0) ws) (get_or cs l.from 0) (at + 1) l.leads r.each;
-        counted = leads-good ws (get_or cs l.to 0) (get_or cs l.from 0) (at + 1) l.leads r.each;
+        counted = leads_good ws (get_or cs l.to 0) (get_or cs l.from 0) (at + 1) l.leads r.each;
       }
 
-  landing-stands : (room at : ℕ) (l : Row) → landing cs ws room at ≡ Ok l → Stands ws at (landing_words l) (at + span l)
-  landing-stands room at l e =
+  landing_stands : (room at : ℕ) (l : Row) → landing cs ws room at ≡ Ok l → Stands ws at (landing_words l) (at + span l)
+  landing_stands room at l e =
       let r = landing_told cs ws room at l e in
       let q : at + 1 + length l.leads ≡ at + span l = omega arith in
       let v = length l.leads * 65536 + l.from * 256 + l.to in
       rw (← q) (join ws at (at + 1) (at + 1 + length l.leads) (tagged tag.Landings v ∷ []) (map (tagged tag.Record) l.leads)
       (stood_stands tag.Landings ws at v (word_told tag.Landings ws at v r.head))
-      (leads-stand ws (get_or cs l.to 0) (length l.leads) (at + 1) l.leads r.each))
+      (leads_stand ws (get_or cs l.to 0) (length l.leads) (at + 1) l.leads r.each))
 
-  landing-good : (n room at : ℕ) (l : Row) → n + room ≡ 32 → landing cs ws room at ≡ Ok l → GoodLanding cs n l
-  landing-good n room at l h e =
+  landing_good : (n room at : ℕ) (l : Row) → n + room ≡ 32 → landing cs ws room at ≡ Ok l → GoodLanding cs n l
+  landing_good n room at l h e =
       let r = landing_told cs ws room at l e in
       record {
         numbered = omega (arith, r.numbered);
         to_known = r.to_known;
         short = r.short;
-        counted = leads-good ws (get_or cs l.to 0) (length l.leads) (at + 1) l.leads r.each;
+        counted = leads_good ws (get_or cs l.to 0) (length l.leads) (at + 1) l.leads r.each;
       }
 
   module _ (few : length cs ≤ 32) (small : All (λ c. c < 65536) cs) where
     count_small : (k : ℕ) → k < length cs → get_or cs k 0 ≤ 65536
     count_small k h = let s = All-get_or (λ c. c < 65536) cs k 0 h small in omega arith
 
-    link-read : (n room at b : ℕ) (l : Row) → n + room ≡ 64 → 0 < room → GoodLink cs l → Stands ws at (link_words l) b → (link cs ws room at ≡ Ok l) × (starts tag.RegisterLink ws at ≡ true)
-    link-read n room at b l t h g s =
+    link_read : (n room at b : ℕ) (l : Row) → n + room ≡ 64 → 0 < room → GoodLink cs l → Stands ws at (link_words l) b → (link cs ws room at ≡ Ok l) × (starts tag.RegisterLink ws at ≡ true)
+    link_read n room at b l t h g s =
         let v = l.from * 256 + l.to in
         let w : v < 65536 = omega (arith, g.from_known, g.to_known) in (
           link_made cs ws room at l (omega arith) (record {
@@ -132,13 +132,13 @@ module _ (cs ws : List ℕ) where
             from_known = g.from_known;
             to_known = g.to_known;
             each = ap (λ n. run (counted (get_or cs l.to 0) ws) n (at + 1)) (sym g.full)
-                ∙ leads-read ws (get_or cs l.to 0) (count_small l.to g.to_known) l.leads (at + 1) b g.counted (back ws at b (tagged tag.RegisterLink v ∷ []) (map (tagged tag.Record) l.leads) s);
+                ∙ leads_read ws (get_or cs l.to 0) (count_small l.to g.to_known) l.leads (at + 1) b g.counted (back ws at b (tagged tag.RegisterLink v ∷ []) (map (tagged tag.Record) l.leads) s);
           }),
           stands_starts tag.RegisterLink ws at b v (map (tagged tag.Record) l.leads) (omega arith) s,
         )
 
-    landing-read : (n room at b : ℕ) (l : Row) → n + room ≡ 32 → 0 < room → GoodLanding cs n l → Stands ws at (landing_words l) b → (landing cs ws room at ≡ Ok l) × (starts tag.Landings ws at ≡ true)
-    landing-read n room at b l t h g s =
+    landing_read : (n room at b : ℕ) (l : Row) → n + room ≡ 32 → 0 < room → GoodLanding cs n l → Stands ws at (landing_words l) b → (landing cs ws room at ≡ Ok l) × (starts tag.Landings ws at ≡ true)
+    landing_read n room at b l t h g s =
         let v = length l.leads * 65536 + l.from * 256 + l.to in
         let w : v < 268435456 = omega (arith, g.numbered, g.to_known, g.short) in (
           landing_made cs ws room at l (omega arith) (record {
@@ -147,7 +147,7 @@ module _ (cs ws : List ℕ) where
             numbered = omega (arith, g.numbered);
             to_known = g.to_known;
             short = g.short;
-            each = leads-read ws (get_or cs l.to 0) (count_small l.to g.to_known) l.leads (at + 1) b g.counted (back ws at b (tagged tag.Landings v ∷ []) (map (tagged tag.Record) l.leads) s);
+            each = leads_read ws (get_or cs l.to 0) (count_small l.to g.to_known) l.leads (at + 1) b g.counted (back ws at b (tagged tag.Landings v ∷ []) (map (tagged tag.Record) l.leads) s);
           }),
           stands_starts tag.Landings ws at b v (map (tagged tag.Record) l.leads) w s,
         )
@@ -174,10 +174,10 @@ before ws f r =
     join ws 0 (1 + n) e (tagged tag.Register n ∷ map (tagged tag.Count) f.counts) (flat_map link_words f.links ++ flat_map landing_words f.landings)
     (join ws 0 1 (1 + n) (tagged tag.Register n ∷ []) (map (tagged tag.Count) f.counts)
     (stood_stands tag.Register ws 0 n (word_told tag.Register ws 0 n k.first))
-    (run-stands ws tag.Count (count ws) (λ c. c < 65536) (λ p v q. stood_stands tag.Count ws p v (count_told ws p v q)) n 1 f.counts k.each))
+    (run_stands ws tag.Count (count ws) (λ c. c < 65536) (λ p v q. stood_stands tag.Count ws p v (count_told ws p v q)) n 1 f.counts k.each))
     (join ws (1 + n) b e (flat_map link_words f.links) (flat_map landing_words f.landings)
-    (rows-stand ws tag.RegisterLink (link f.counts ws) 64 link_words (λ _. GoodLink f.counts) (link-stands f.counts ws) (1 + n) f.links r.linked)
-    (rows-stand ws tag.Landings (landing f.counts ws) 32 landing_words (GoodLanding f.counts) (landing-stands f.counts ws) b f.landings r.landed))
+    (rows_stand ws tag.RegisterLink (link f.counts ws) 64 link_words (λ _. GoodLink f.counts) (link_stands f.counts ws) (1 + n) f.links r.linked)
+    (rows_stand ws tag.Landings (landing f.counts ws) 32 landing_words (GoodLanding f.counts) (landing_stands f.counts ws) b f.landings r.landed))
 
 pub read_layout : (ws : List ℕ) (f : File) → read ws ≡ Ok f → (ws ≡ layout f) × WellFormed f
 read_layout ws f p =
@@ -193,12 +193,12 @@ read_layout ws f p =
       whole ws (layout f) (e + 1) (join ws 0 e (e + 1) (before_end f) (tagged tag.End (length (before_end f)) ∷ []) s y) z.1,
       record {
         few_kinds = k.few;
-        small = run-all ws tag.Count (count ws) (λ c. c < 65536) (λ q v h. (count_told ws q v h).small) n 1 f.counts k.each;
-        few_links = items-length span (λ room p. starts tag.RegisterLink ws p) (link f.counts ws) 64 (1 + n) f.links r.linked;
+        small = run_all ws tag.Count (count ws) (λ c. c < 65536) (λ q v h. (count_told ws q v h).small) n 1 f.counts k.each;
+        few_links = items_length span (λ room p. starts tag.RegisterLink ws p) (link f.counts ws) 64 (1 + n) f.links r.linked;
         links = each_all (GoodLink f.counts) 0 f.links
-            (rows-each ws tag.RegisterLink (link f.counts ws) 64 link_words (λ _. GoodLink f.counts) (λ k room p l h. link-good f.counts ws room p l) (1 + n) f.links r.linked);
-        few_landings = items-length span (λ room p. starts tag.Landings ws p) (landing f.counts ws) 32 b f.landings r.landed;
-        landings = rows-each ws tag.Landings (landing f.counts ws) 32 landing_words (GoodLanding f.counts) (landing-good f.counts ws) b f.landings r.landed;
+            (rows_each ws tag.RegisterLink (link f.counts ws) 64 link_words (λ _. GoodLink f.counts) (λ k room p l h. link_good f.counts ws room p l) (1 + n) f.links r.linked);
+        few_landings = items_length span (λ room p. starts tag.Landings ws p) (landing f.counts ws) 32 b f.landings r.landed;
+        landings = rows_each ws tag.Landings (landing f.counts ws) 32 landing_words (GoodLanding f.counts) (landing_good f.counts ws) b f.landings r.landed;
       },
     )
 
@@ -209,7 +209,7 @@ landing_span : (l : Row) → length (landing_words l) ≡ span l
 landing_span l = let h = length-map l.leads (tagged tag.Record) in omega arith
 
 joined_length : (lay : Row → List ℕ) → ((l : Row) → length (lay l) ≡ span l) → (ls : List Row) → length (flat_map lay ls) ≡ sizes span ls
-joined_length lay len ls = ap length (joined-numbered lay 0 ls) ∙ numbered-length span (λ _. lay) (λ _. len) 0 ls
+joined_length lay len ls = ap length (joined_numbered lay 0 ls) ∙ numbered_length span (λ _. lay) (λ _. len) 0 ls
 
 count_read : (ws : List ℕ) (p v : ℕ) → v < 65536 → Stands ws p (tagged tag.Count v ∷ []) (p + 1) → count ws p ≡ Ok v
 count_read ws p v h s = ap worded (word_read tag.Count ws p v (stands_stood tag.Count ws p (p + 1) v [] h s))
@@ -227,9 +227,9 @@ module _ (ws : List ℕ) (f : File) (w : WellFormed f) (all : Stands ws 0 (layou
   n : ℕ
   n = length f.counts
 
-  pub layout-file : FileRead ws f
+  pub layout_file : FileRead ws f
   unfolding n
-  layout-file =
+  layout_file =
       let cs = f.counts in
       let hs : List ℕ = tagged tag.Register n ∷ map (tagged tag.Count) cs in
       let ls = flat_map link_words f.links in
@@ -251,13 +251,13 @@ module _ (ws : List ℕ) (f : File) (w : WellFormed f) (all : Stands ws 0 (layou
         counted = counts_read ws cs (record {
           first = let v : n < 256 = omega (arith, w.few_kinds) in word_read tag.Register ws 0 n (stands_stood tag.Register ws 0 (1 + n) n (map (tagged tag.Count) cs) v h0);
           few = w.few_kinds;
-          each = run-read ws tag.Count (count ws) (λ c. c < 65536) (count_read ws) cs 1 (1 + n) w.small (back ws 0 (1 + n) (tagged tag.Register n ∷ []) (map (tagged tag.Count) cs) h0);
+          each = run_read ws tag.Count (count ws) (λ c. c < 65536) (count_read ws) cs 1 (1 + n) w.small (back ws 0 (1 + n) (tagged tag.Register n ∷ []) (map (tagged tag.Count) cs) h0);
         });
-        linked = rows-read ws tag.RegisterLink (link cs ws) 64 link_words (λ _. GoodLink cs) link_span (link-read cs ws w.few_kinds w.small) (1 + n) (1 + n + sizes span f.links) f.links
-            w.few_links (all-each (GoodLink cs) 0 f.links w.links) l0
+        linked = rows_read ws tag.RegisterLink (link cs ws) 64 link_words (λ _. GoodLink cs) link_span (link_read cs ws w.few_kinds w.small) (1 + n) (1 + n + sizes span f.links) f.links
+            w.few_links (all_each (GoodLink cs) 0 f.links w.links) l0
             (landings_no_link cs ws (1 + n + sizes span f.links) (length ws) 0 e f.landings w.few_kinds (omega (arith, w.few_landings)) short w.landings
             (join ws (1 + n + sizes span f.links) e (length ws) ms (tagged tag.End e ∷ []) m0 s7));
-        landed = rows-read ws tag.Landings (landing cs ws) 32 landing_words (GoodLanding cs) landing_span (landing-read cs ws w.few_kinds w.small) (1 + n + sizes span f.links) e f.landings
+        landed = rows_read ws tag.Landings (landing cs ws) 32 landing_words (GoodLanding cs) landing_span (landing_read cs ws w.few_kinds w.small) (1 + n + sizes span f.links) e f.landings
             w.few_landings w.landings m0
             (stands_other tag.Landings tag.End ws e (length ws) e [] short (λ q. omega arith) s7);
         closed = rw (← en) last;
@@ -266,7 +266,7 @@ module _ (ws : List ℕ) (f : File) (w : WellFormed f) (all : Stands ws 0 (layou
 pub layout_read : (ws : List ℕ) (f : File) → (ws ≡ layout f) × WellFormed f → read ws ≡ Ok f
 layout_read ws f h =
     let s : Stands ws 0 (layout f) (length ws) = rw h.0 (itself (layout f)) in
-    read_made ws f (layout-file ws f h.1 s)
+    read_made ws f (layout_file ws f h.1 s)
 
 pub reads_layouts : ReadsLayouts
 reads_layouts ws f = (read_layout ws f, layout_read ws f)

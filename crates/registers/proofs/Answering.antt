@@ -75,11 +75,11 @@ link_stood cs ws room at l r = word_told tag.RegisterLink ws at (l.from * 256 + 
 -- the same, as the code asks
 module _ (ws : List ℕ) (kinds links : ℕ) (ps : List ℕ) (kinded : kinds ≡ length (file ws).counts) (linked : links ≡ length (file ws).links)
     (placed : take links ps ≡ places span (1 + kinds) (file ws).links) where
-  pub count-inside : (k : ℕ) → k < kinds → 1 + k < length ws
-  count-inside k h = (held_count ws k (omega arith)).inside
+  pub count_inside : (k : ℕ) → k < kinds → 1 + k < length ws
+  count_inside k h = (held_count ws k (omega arith)).inside
 
-  pub count-is : (k : ℕ) → k < kinds → get_or ws (1 + k) 0 % 268435456 ≡ (answers (file ws)).count k
-  count-is k h = let s = held_count ws k (omega arith) in omega (arith, s.same, s.small)
+  pub count_is : (k : ℕ) → k < kinds → get_or ws (1 + k) 0 % 268435456 ≡ (answers (file ws)).count k
+  count_is k h = let s = held_count ws k (omega arith) in omega (arith, s.same, s.small)
 
   pub count_none : (k : ℕ) → kinds ≤ k → 0 ≡ (answers (file ws)).count k
   count_none k h = sym (get_or_past (file ws).counts k 0 (omega arith))
@@ -90,17 +90,17 @@ module _ (ws : List ℕ) (kinds links : ℕ) (ps : List ℕ) (kinded : kinds ≡
   pub link_inside : (l : ℕ) → l < links → get_or ps l 0 < length ws
   link_inside l h = (link_stood _ _ _ _ _ (link_here l h)).inside
 
-  from-small : (l : ℕ) → l < links → ((row_at (file ws) l).from < 256) × ((row_at (file ws) l).to < 256)
-  from-small l h =
+  from_small : (l : ℕ) → l < links → ((row_at (file ws) l).from < 256) × ((row_at (file ws) l).to < 256)
+  from_small l h =
       let r = link_here l h in
       let few = (counts_told ws (file ws).counts (with_links ws (omega arith)).counted).few in
       (omega (arith, r.from_known), omega (arith, r.to_known))
 
-  pub ends-are : (l : ℕ) → l < links
+  pub ends_are : (l : ℕ) → l < links
       → Some (get_or ws (get_or ps l 0) 0 % 268435456 / 256, get_or ws (get_or ps l 0) 0 % 268435456 % 256) ≡ (answers (file ws)).ends l
-  ends-are l h =
+  ends_are l h =
       let s = link_stood _ _ _ _ _ (link_here l h) in
-      let b = from-small l h in
+      let b = from_small l h in
       let p : get_or ws (get_or ps l 0) 0 % 268435456 / 256 ≡ (row_at (file ws) l).from = omega (arith, s.same, s.small, b.0, b.1) in
       let q : get_or ws (get_or ps l 0) 0 % 268435456 % 256 ≡ (row_at (file ws) l).to = omega (arith, s.same, s.small, b.0, b.1) in
       let t : ltb l (length (file ws).links) ≡ true = grind (arith, nat_tests) in
@@ -115,24 +115,24 @@ module _ (ws : List ℕ) (kinds links : ℕ) (ps : List ℕ) (kinded : kinds ≡
       by true t e = let h : x ≡ ((row_at (file ws) l).from, (row_at (file ws) l).to) = cc in (grind (arith, nat_tests), ap (λ y. y.0) h)
       by false t e = absurd (let z : ◌≡◌ {A = ℕ} 0 1 = cc in omega arith)
 
-  leads-are : (l : ℕ) → l < links → length (row_at (file ws) l).leads ≡ (answers (file ws)).count (row_at (file ws) l).from
-  leads-are l h = link_length _ _ _ _ _ (link_here l h)
+  leads_are : (l : ℕ) → l < links → length (row_at (file ws) l).leads ≡ (answers (file ws)).count (row_at (file ws) l).from
+  leads_are l h = link_length _ _ _ _ _ (link_here l h)
 
-  pub follow-none : (l r : ℕ) → l < links → (answers (file ws)).count (row_at (file ws) l).from ≤ r → None ≡ (answers (file ws)).follow l r
-  follow-none l r h n =
-      let m = leads-are l h in
+  pub follow_none : (l r : ℕ) → l < links → (answers (file ws)).count (row_at (file ws) l).from ≤ r → None ≡ (answers (file ws)).follow l r
+  follow_none l r h n =
+      let m = leads_are l h in
       let t : ltb r (length (row_at (file ws) l).leads) ≡ false = grind (arith, nat_tests) in
       let u : ltb l (length (file ws).links) ≡ true = grind (arith, nat_tests) in
       sym (ap (λ b. cond b (cond (ltb r (length (row_at (file ws) l).leads)) (Some (get_or (row_at (file ws) l).leads r 0)) None) None) u
       ∙ ap (λ b. cond b (Some (get_or (row_at (file ws) l).leads r 0)) None) t)
 
-  pub lead-inside : (l r : ℕ) → l < links → r < (answers (file ws)).count (row_at (file ws) l).from → get_or ps l 0 + 1 + r < length ws
-  lead-inside l r h n = (link_lead _ _ _ _ _ r (link_here l h) n).inside
+  pub lead_inside : (l r : ℕ) → l < links → r < (answers (file ws)).count (row_at (file ws) l).from → get_or ps l 0 + 1 + r < length ws
+  lead_inside l r h n = (link_lead _ _ _ _ _ r (link_here l h) n).inside
 
-  pub follow-is : (l r : ℕ) → l < links → r < (answers (file ws)).count (row_at (file ws) l).from
+  pub follow_is : (l r : ℕ) → l < links → r < (answers (file ws)).count (row_at (file ws) l).from
       → Some (get_or ws (get_or ps l 0 + 1 + r) 0 % 268435456) ≡ (answers (file ws)).follow l r
-  follow-is l r h n =
-      let m = leads-are l h in
+  follow_is l r h n =
+      let m = leads_are l h in
       let s = link_lead _ _ _ _ _ r (link_here l h) n in
       let p : get_or ws (get_or ps l 0 + 1 + r) 0 % 268435456 ≡ get_or (row_at (file ws) l).leads r 0 = omega (arith, s.same, s.small) in
       let t : ltb r (length (row_at (file ws) l).leads) ≡ true = grind (arith, nat_tests) in
@@ -141,30 +141,30 @@ module _ (ws : List ℕ) (kinds links : ℕ) (ps : List ℕ) (kinded : kinds ≡
       ∙ sym (ap (λ b. cond b (cond (ltb r (length (row_at (file ws) l).leads)) (Some (get_or (row_at (file ws) l).leads r 0)) None) None) u
       ∙ ap (λ b. cond b (Some (get_or (row_at (file ws) l).leads r 0)) None) t)
 
-  pub follow-inside : (l r n : ℕ) (x : ℕ × ℕ) → Some x ≡ (answers (file ws)).ends l → n ≡ (answers (file ws)).count x.0 → r < n → get_or ps l 0 + 1 + r < length ws
-  follow-inside l r n x e c h =
+  pub follow_inside : (l r n : ℕ) (x : ℕ × ℕ) → Some x ≡ (answers (file ws)).ends l → n ≡ (answers (file ws)).count x.0 → r < n → get_or ps l 0 + 1 + r < length ws
+  follow_inside l r n x e c h =
       let t = ends_told l x e in
       let q : n ≡ (answers (file ws)).count (row_at (file ws) l).from = c ∙ ap (answers (file ws)).count t.1 in
-      lead-inside l r t.0 (omega arith)
+      lead_inside l r t.0 (omega arith)
 
-  pub follow-gives : (l r n : ℕ) (x : ℕ × ℕ) → Some x ≡ (answers (file ws)).ends l → n ≡ (answers (file ws)).count x.0 → r < n
+  pub follow_gives : (l r n : ℕ) (x : ℕ × ℕ) → Some x ≡ (answers (file ws)).ends l → n ≡ (answers (file ws)).count x.0 → r < n
       → Some (get_or ws (get_or ps l 0 + 1 + r) 0 % 268435456) ≡ (answers (file ws)).follow l r
-  follow-gives l r n x e c h =
+  follow_gives l r n x e c h =
       let t = ends_told l x e in
       let q : n ≡ (answers (file ws)).count (row_at (file ws) l).from = c ∙ ap (answers (file ws)).count t.1 in
-      follow-is l r t.0 (omega arith)
+      follow_is l r t.0 (omega arith)
 
-  pub follow-stops : (l r n : ℕ) (x : ℕ × ℕ) → Some x ≡ (answers (file ws)).ends l → n ≡ (answers (file ws)).count x.0 → n ≤ r → None ≡ (answers (file ws)).follow l r
-  follow-stops l r n x e c h =
+  pub follow_stops : (l r n : ℕ) (x : ℕ × ℕ) → Some x ≡ (answers (file ws)).ends l → n ≡ (answers (file ws)).count x.0 → n ≤ r → None ≡ (answers (file ws)).follow l r
+  follow_stops l r n x e c h =
       let t = ends_told l x e in
       let q : n ≡ (answers (file ws)).count (row_at (file ws) l).from = c ∙ ap (answers (file ws)).count t.1 in
-      follow-none l r t.0 (omega arith)
+      follow_none l r t.0 (omega arith)
 
-  pub held-lawful : Lawful (answers (file ws))
-  held-lawful = record {
+  pub held_lawful : Lawful (answers (file ws))
+  held_lawful = record {
     unknown_kind = λ k h. sym (count_none k (omega arith));
     known_link = λ l h. let t : ltb l (length (file ws).links) ≡ true = grind (arith, nat_tests) in rw t tt;
     unknown_link = λ l h. grind (arith, nat_tests);
     leads_unknown = λ l r h. grind (arith, nat_tests);
-    leads_uncounted = λ l r e q h. sym (follow-stops l r ((answers (file ws)).count e.0) e (sym q) refl h);
+    leads_uncounted = λ l r e q h. sym (follow_stops l r ((answers (file ws)).count e.0) e (sym q) refl h);
   }

@@ -26,11 +26,11 @@ module _ (p : ℕ → Bool) where
   unfolding some_below
   none_more n h k = rw add-one (or_from _ _ h k)
 
-  pub some-found : (k n : ℕ) → k < n → p k ≡ true → true ≡ some_below p n
+  pub some_found : (k n : ℕ) → k < n → p k ≡ true → true ≡ some_below p n
   unfolding some_below
-  some-found k zero h e = absurd (omega arith)
-  some-found k (suc n) h e = ⊎_elim
-      (λ (l : k < n). sym (or_left _ _ (sym (some-found k n l e))))
+  some_found k zero h e = absurd (omega arith)
+  some_found k (suc n) h e = ⊎_elim
+      (λ (l : k < n). sym (or_left _ _ (sym (some_found k n l e))))
       (λ (l : n ≤ k). let s : k ≡ n = omega arith in sym (or_right (some_below p n) (p n) (ap p (sym s) ∙ e)))
       (cases_lt k n)
 
@@ -44,41 +44,41 @@ module _ (p : ℕ → Bool) where
   none_from zero h = refl
   none_from (suc n) h = or_from _ _ (none_from n (λ k l. h k (omega arith))) (h n (omega arith))
 
-  pub lowest-more : (n : ℕ) → lowest p n ≡ None → p n ≡ false → lowest p (n + 1) ≡ None
+  pub lowest_more : (n : ℕ) → lowest p n ≡ None → p n ≡ false → lowest p (n + 1) ≡ None
   unfolding lowest
-  lowest-more n h k = rw (add-one, h, k)
+  lowest_more n h k = rw (add-one, h, k)
 
-  pub lowest-found : (k n : ℕ) → k < n → lowest p k ≡ None → p k ≡ true → Some k ≡ lowest p n
+  pub lowest_found : (k n : ℕ) → k < n → lowest p k ≡ None → p k ≡ true → Some k ≡ lowest p n
   unfolding lowest
-  lowest-found k zero l h e = absurd (omega arith)
-  lowest-found k (suc n) l h e = ⊎_elim
-      (λ (b : k < n). ap (λ o. or_here o (cond (p n) (Some n) None)) (lowest-found k n b h e))
+  lowest_found k zero l h e = absurd (omega arith)
+  lowest_found k (suc n) l h e = ⊎_elim
+      (λ (b : k < n). ap (λ o. or_here o (cond (p n) (Some n) None)) (lowest_found k n b h e))
       (λ (b : n ≤ k). let s : k ≡ n = omega arith in rw (← s, h, e))
       (cases_lt k n)
 
-  pub lowest-told : (n : ℕ) → lowest p n ≡ None → (k : ℕ) → k < n → p k ≡ false
+  pub lowest_told : (n : ℕ) → lowest p n ≡ None → (k : ℕ) → k < n → p k ≡ false
   unfolding lowest
-  lowest-told zero h k l = absurd (omega arith)
-  lowest-told (suc n) h k l =
+  lowest_told zero h k l = absurd (omega arith)
+  lowest_told (suc n) h k l =
       let q = or_here_none (lowest p n) (cond (p n) (Some n) None) h in
-      below (λ j. p j ≡ false) n (lowest-told n q.0) (cond_none (p n) n q.1) k l
+      below (λ j. p j ≡ false) n (lowest_told n q.0) (cond_none (p n) n q.1) k l
 
-  pub lowest-from : (n : ℕ) → ((k : ℕ) → k < n → p k ≡ false) → lowest p n ≡ None
+  pub lowest_from : (n : ℕ) → ((k : ℕ) → k < n → p k ≡ false) → lowest p n ≡ None
   unfolding lowest
-  lowest-from zero h = refl
-  lowest-from (suc n) h = let q = lowest-from n (λ k l. h k (omega arith)) in let e = h n (omega arith) in rw (q, e)
+  lowest_from zero h = refl
+  lowest_from (suc n) h = let q = lowest_from n (λ k l. h k (omega arith)) in let e = h n (omega arith) in rw (q, e)
 
 module _ {X : Type 0} (f : ℕ → X) where
-  pub upto-length : (n : ℕ) → length (upto f n) ≡ n
+  pub upto_length : (n : ℕ) → length (upto f n) ≡ n
   unfolding upto
-  upto-length zero = refl
-  upto-length (suc n) = let h = upto-length n in simp length-append (omega arith)
+  upto_length zero = refl
+  upto_length (suc n) = let h = upto_length n in simp length-append (omega arith)
 
-  pub upto-at : (n i : ℕ) (d : X) → i < n → get_or (upto f n) i d ≡ f i
+  pub upto_at : (n i : ℕ) (d : X) → i < n → get_or (upto f n) i d ≡ f i
   unfolding upto
-  upto-at zero i d h = absurd (omega arith)
-  upto-at (suc n) i d h = let q = upto-length n in ⊎_elim
-      (λ (l : i < n). get_or_append_left (upto f n) (f n ∷ []) d i (omega arith) ∙ upto-at n i d l)
+  upto_at zero i d h = absurd (omega arith)
+  upto_at (suc n) i d h = let q = upto_length n in ⊎_elim
+      (λ (l : i < n). get_or_append_left (upto f n) (f n ∷ []) d i (omega arith) ∙ upto_at n i d l)
       (λ (l : n ≤ i). let s : n ≡ i = omega arith in get_or_push (upto f n) (f n) d i (q ∙ s) ∙ ap f s)
       (cases_lt i n)
 
@@ -89,8 +89,8 @@ module _ {X : Type 0} (f : ℕ → X) where
 
   pub upto_same : (xs : List X) (d : X) → ((i : ℕ) → i < length xs → f i ≡ get_or xs i d) → upto f (length xs) ≡ xs
   upto_same xs d h =
-      let q = upto-length (length xs) in
-      ext_get_or d (upto f (length xs)) xs q (λ i l. let k : i < length xs = omega arith in upto-at (length xs) i d k ∙ h i k)
+      let q = upto_length (length xs) in
+      ext_get_or d (upto f (length xs)) xs q (λ i l. let k : i < length xs = omega arith in upto_at (length xs) i d k ∙ h i k)
 
 pub astray_at : (n n' : ℕ) (o o' : Option ℕ) (b : Bool) → b ≡ astray n o → n ≡ n' → o ≡ o' → astray n' o' ≡ b
 astray_at n n' o o' b e p q = cc

@@ -11,7 +11,7 @@ use Rattle.registers.specs.Meaning.{Meaning}
 use Rattle.registers.specs.Writing.{upto, lead, row_by, row_of, file_of}
 use Rattle.registers.specs.Splices.{spliced}
 use Rattle.registers.specs.Parts.{file_words, row_words, count_words, record_words, links_words}
-use Rattle.registers.proofs.WrittenLists.{upto-length}
+use Rattle.registers.proofs.WrittenLists.{upto_length}
 use Rattle.registers.proofs.WrittenSplices.{splice_none, splice_then, splice_front}
 
 -- one more word of a list made by count
@@ -19,89 +19,89 @@ pub tagged_more : (t : Tag) (f : ℕ → ℕ) (at k v : ℕ) (old mid new : List
     → new ≡ spliced (at + k) (tagged t v ∷ []) mid → new ≡ spliced at (map (tagged t) (upto f (k + 1))) old
 unfolding upto
 tagged_more t f at k v old mid new h e p q =
-    splice_then at (at + k) (map (tagged t) (upto f k)) (tagged t v ∷ []) old mid new h (ap (λ n. at + n) (length-map (upto f k) (tagged t) ∙ upto-length f k)) p q
+    splice_then at (at + k) (map (tagged t) (upto f k)) (tagged t v ∷ []) old mid new h (ap (λ n. at + n) (length-map (upto f k) (tagged t) ∙ upto_length f k)) p q
     ∙ ap (λ x. spliced at (map (tagged t) (upto f k) ++ tagged t x ∷ []) old) e
     ∙ ap (λ l. spliced at l old) (sym (map_push (tagged t) (upto f k) (f k)))
     ∙ ap (λ n. spliced at (map (tagged t) (upto f n)) old) (sym (add-one k))
 
 module _ (m : Meaning) where
-  pub counts-none : (old : List ℕ) → old ≡ spliced 1 (count_words m 0) old
+  pub counts_none : (old : List ℕ) → old ≡ spliced 1 (count_words m 0) old
   unfolding count_words upto
-  counts-none old = splice_none 1 old
+  counts_none old = splice_none 1 old
 
-  pub counts-more : (k v : ℕ) (old mid new : List ℕ) → 1 ≤ length old → v ≡ m.count k → mid ≡ spliced 1 (count_words m k) old
+  pub counts_more : (k v : ℕ) (old mid new : List ℕ) → 1 ≤ length old → v ≡ m.count k → mid ≡ spliced 1 (count_words m k) old
       → new ≡ spliced (1 + k) (tagged tag.Count v ∷ []) mid → new ≡ spliced 1 (count_words m (k + 1)) old
   unfolding count_words
-  counts-more k v old mid new h e p q = tagged_more tag.Count m.count 1 k v old mid new h e p q
+  counts_more k v old mid new h e p q = tagged_more tag.Count m.count 1 k v old mid new h e p q
 
-  pub records-none : (l at : ℕ) (old : List ℕ) → old ≡ spliced at (record_words m l 0) old
+  pub records_none : (l at : ℕ) (old : List ℕ) → old ≡ spliced at (record_words m l 0) old
   unfolding record_words upto
-  records-none l at old = splice_none at old
+  records_none l at old = splice_none at old
 
-  pub records-more : (l at r v : ℕ) (old mid new : List ℕ) → at ≤ length old → v ≡ lead m l r → mid ≡ spliced at (record_words m l r) old
+  pub records_more : (l at r v : ℕ) (old mid new : List ℕ) → at ≤ length old → v ≡ lead m l r → mid ≡ spliced at (record_words m l r) old
       → new ≡ spliced (at + r) (tagged tag.Record v ∷ []) mid → new ≡ spliced at (record_words m l (r + 1)) old
   unfolding record_words
-  records-more l at r v old mid new h e p q = tagged_more tag.Record (lead m l) at r v old mid new h e p q
+  records_more l at r v old mid new h e p q = tagged_more tag.Record (lead m l) at r v old mid new h e p q
 
-  pub links-none : links_words m 0 ≡ []
+  pub links_none : links_words m 0 ≡ []
   unfolding links_words upto
-  links-none = refl
+  links_none = refl
 
-  links-suc : (n : ℕ) → links_words m (suc n) ≡ links_words m n ++ row_words m n
+  links_suc : (n : ℕ) → links_words m (suc n) ≡ links_words m n ++ row_words m n
   unfolding links_words row_words upto
-  links-suc n = sym (flat_map_more link_words [] (upto (row_of m) n) (row_of m n))
+  links_suc n = sym (flat_map_more link_words [] (upto (row_of m) n) (row_of m n))
 
-  pub links-step : (n : ℕ) → length (links_words m (suc n)) ≡ length (links_words m n) + length (row_words m n)
-  links-step n = ap length (links-suc n) ∙ length-append (links_words m n) (row_words m n)
+  pub links_step : (n : ℕ) → length (links_words m (suc n)) ≡ length (links_words m n) + length (row_words m n)
+  links_step n = ap length (links_suc n) ∙ length-append (links_words m n) (row_words m n)
 
-  pub links-length : (n : ℕ) → length (links_words m (n + 1)) ≡ length (links_words m n) + length (row_words m n)
-  links-length n = ap (λ k. length (links_words m k)) (add-one n) ∙ links-step n
+  pub links_length : (n : ℕ) → length (links_words m (n + 1)) ≡ length (links_words m n) + length (row_words m n)
+  links_length n = ap (λ k. length (links_words m k)) (add-one n) ∙ links_step n
 
   pub links_start : (at : ℕ) (old : List ℕ) → old ≡ spliced at (links_words m 0) old
   unfolding links_words upto
   links_start at old = splice_none at old
 
-  pub links-more : (at b l : ℕ) (old mid new : List ℕ) → at ≤ length old → b ≡ at + length (links_words m l) → mid ≡ spliced at (links_words m l) old
+  pub links_more : (at b l : ℕ) (old mid new : List ℕ) → at ≤ length old → b ≡ at + length (links_words m l) → mid ≡ spliced at (links_words m l) old
       → new ≡ spliced b (row_words m l) mid → new ≡ spliced at (links_words m (l + 1)) old
-  links-more at b l old mid new h e p q =
+  links_more at b l old mid new h e p q =
       splice_then at b (links_words m l) (row_words m l) old mid new h (sym e) p q
-      ∙ ap (λ x. spliced at x old) (sym (ap (links_words m) (add-one l) ∙ links-suc l))
+      ∙ ap (λ x. spliced at x old) (sym (ap (links_words m) (add-one l) ∙ links_suc l))
 
   -- there is room for a link among those below n
-  pub links-room : (l n : ℕ) → l < n → length (links_words m l) + length (row_words m l) ≤ length (links_words m n)
-  links-room l zero h = absurd (omega arith)
-  links-room l (suc n) h =
-      let q = links-step n in
-      ⊎_elim (λ (b : l < n). let r = links-room l n b in omega arith) (λ (b : n ≤ l). let s : l ≡ n = omega arith in rw s (omega arith)) (cases_lt l n)
+  pub links_room : (l n : ℕ) → l < n → length (links_words m l) + length (row_words m l) ≤ length (links_words m n)
+  links_room l zero h = absurd (omega arith)
+  links_room l (suc n) h =
+      let q = links_step n in
+      ⊎_elim (λ (b : l < n). let r = links_room l n b in omega arith) (λ (b : n ≤ l). let s : l ≡ n = omega arith in rw s (omega arith)) (cases_lt l n)
 
   -- the words of a link that has ends
-  row-parts : (l from to : ℕ) → Some (from, to) ≡ m.ends l
+  row_parts : (l from to : ℕ) → Some (from, to) ≡ m.ends l
       → row_words m l ≡ (tagged tag.RegisterLink (from * 256 + to) ∷ []) ++ record_words m l (m.count from)
   unfolding row_words record_words
-  row-parts l from to e = ap (λ o. link_words (row_by m l o)) (sym e)
+  row_parts l from to e = ap (λ o. link_words (row_by m l o)) (sym e)
 
-  pub link-put : (l at from to n : ℕ) (old mid new : List ℕ) → at ≤ length old → Some (from, to) ≡ m.ends l → n ≡ m.count from
+  pub link_put : (l at from to n : ℕ) (old mid new : List ℕ) → at ≤ length old → Some (from, to) ≡ m.ends l → n ≡ m.count from
       → mid ≡ spliced at (tagged tag.RegisterLink (from * 256 + to) ∷ []) old → new ≡ spliced (at + 1) (record_words m l n) mid → new ≡ spliced at (row_words m l) old
-  link-put l at from to n old mid new h e c p q =
+  link_put l at from to n old mid new h e c p q =
       splice_then at (at + 1) (tagged tag.RegisterLink (from * 256 + to) ∷ []) (record_words m l n) old mid new h refl p q
       ∙ ap (λ k. spliced at ((tagged tag.RegisterLink (from * 256 + to) ∷ []) ++ record_words m l k) old) c
-      ∙ ap (λ x. spliced at x old) (sym (row-parts l from to e))
+      ∙ ap (λ x. spliced at x old) (sym (row_parts l from to e))
 
-  pub row-length : (l from to : ℕ) → Some (from, to) ≡ m.ends l → length (row_words m l) ≡ 1 + m.count from
+  pub row_length : (l from to : ℕ) → Some (from, to) ≡ m.ends l → length (row_words m l) ≡ 1 + m.count from
   unfolding record_words
-  row-length l from to e =
-      let n = length-map (upto (lead m l) (m.count from)) (tagged tag.Record) ∙ upto-length (lead m l) (m.count from) in
-      ap length (row-parts l from to e) ∙ (omega arith)
+  row_length l from to e =
+      let n = length-map (upto (lead m l) (m.count from)) (tagged tag.Record) ∙ upto_length (lead m l) (m.count from) in
+      ap length (row_parts l from to e) ∙ (omega arith)
 
-  pub row-none : (l : ℕ) → None ≡ m.ends l → 1 ≡ length (row_words m l)
+  pub row_none : (l : ℕ) → None ≡ m.ends l → 1 ≡ length (row_words m l)
   unfolding row_words
-  row-none l e = ap (λ o. length (link_words (row_by m l o))) e
+  row_none l e = ap (λ o. length (link_words (row_by m l o))) e
 
-  file-parts : file_words m
+  file_parts : file_words m
       ≡ (((tagged tag.Register m.kinds ∷ []) ++ count_words m m.kinds) ++ links_words m m.links) ++ tagged tag.End (1 + m.kinds + length (links_words m m.links)) ∷ []
   unfolding file_words count_words links_words
-  file-parts =
-      let k = upto-length m.count m.kinds in
+  file_parts =
+      let k = upto_length m.count m.kinds in
       let head : List ℕ = tagged tag.Register m.kinds ∷ map (tagged tag.Count) (upto m.count m.kinds) in
       let links : List ℕ = flat_map link_words (upto (row_of m) m.links) in
       let b : before_end (file_of m) ≡ head ++ links =
@@ -112,10 +112,10 @@ module _ (m : Meaning) where
 
   counts_length : length (count_words m m.kinds) ≡ m.kinds
   unfolding count_words
-  counts_length = length-map (upto m.count m.kinds) (tagged tag.Count) ∙ upto-length m.count m.kinds
+  counts_length = length-map (upto m.count m.kinds) (tagged tag.Count) ∙ upto_length m.count m.kinds
 
-  pub file-length : length (file_words m) ≡ m.kinds + length (links_words m m.links) + 2
-  file-length = let c = counts_length in ap length file-parts ∙ simp length-append (omega arith)
+  pub file_length : length (file_words m) ≡ m.kinds + length (links_words m m.links) + 2
+  file_length = let c = counts_length in ap length file_parts ∙ simp length-append (omega arith)
 
 -- the four parts of a file, each behind the one before
 pub file_put : (m : Meaning) (k next : ℕ) (old a b c new : List ℕ) → k ≡ m.kinds → a ≡ spliced 0 (tagged tag.Register k ∷ []) old → b ≡ spliced 1 (count_words m m.kinds) a
@@ -132,4 +132,4 @@ file_put m k next old a b c new h p q r e s =
     (omega (arith, length-append first counts, length-append (first ++ counts) links)) three s
     ∙ ap (λ j. spliced 0 (((first ++ counts) ++ links) ++ tagged tag.End j ∷ []) old) e
     ∙ ap (λ j. spliced 0 ((((tagged tag.Register j ∷ []) ++ counts) ++ links) ++ tagged tag.End (1 + j + length links) ∷ []) old) h
-    ∙ ap (λ x. spliced 0 x old) (sym (file-parts m)) ∙ splice_front (file_words m) old
+    ∙ ap (λ x. spliced 0 x old) (sym (file_parts m)) ∙ splice_front (file_words m) old

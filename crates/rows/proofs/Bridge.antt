@@ -9,7 +9,7 @@ use Rattle.machine.specs.Sweeping.{rank}
 use Rattle.machine.specs.Sound.{Mem, Sound}
 use Rattle.machine.proofs.Fill.{some_none}
 use Rattle.rows.specs.Layout.{Raw, Fits, Tidy, Same, Carries, inside, spot, decode, shown, kind_of, forward_of, waiting_of}
-use Rattle.rows.proofs.Places.{inside-true, landing-low}
+use Rattle.rows.proofs.Places.{inside_true, landing_low}
 use Rattle.rows.proofs.Shown.{same_state, held_in, held_out, waits_are}
 use Rattle.rows.proofs.Keeps.{tidy_by}
 
@@ -45,20 +45,20 @@ same_carries L a b e = subst (Carries L) (sym e.shape)
 
 -- a table with nothing given and empty landings shows the start
 module _ (r : Raw) (fits : Fits r) (none : r.given ≡ 0) (quiet : r.waits ≡ 0) (empty : (i : ℕ) → i < r.shape.records → get_or r.ws (r.shape.lands + i) 0 ≡ 0) where
-  nothing-held : (t : Slot) → (shown r).held t ≡ None
-  nothing-held (cell e l) = let b : inside r.shape r.given (cell e l) ≡ false = grind (arith, nat_tests) in sym (held_out r (cell e l) b)
-  nothing-held (landing k q) = elim (cases_Bool (inside r.shape r.given (landing k q))) [
+  nothing_held : (t : Slot) → (shown r).held t ≡ None
+  nothing_held (cell e l) = let b : inside r.shape r.given (cell e l) ≡ false = grind (arith, nat_tests) in sym (held_out r (cell e l) b)
+  nothing_held (landing k q) = elim (cases_Bool (inside r.shape r.given (landing k q))) [
     | inl b ↦ (
-        let h = landing-low r fits k q (inside-true r.shape r.given (landing k q) b) in
+        let h = landing_low r fits k q (inside_true r.shape r.given (landing k q) b) in
         let p : spot r.shape (landing k q) ≡ r.shape.lands + (spot r.shape (landing k q) - r.shape.lands) = omega arith in
         held_in r (landing k q) b ∙ ap decode (ap (λ (i : ℕ). get_or r.ws i 0) p ∙ empty (spot r.shape (landing k q) - r.shape.lands) (omega arith)))
     | inr b ↦ sym (held_out r (landing k q) b)
   ]
 
-  pub shown-start : shown r ≡ start
+  pub shown_start : shown r ≡ start
   unfolding kind_of forward_of
-  shown-start = same_state (shown r) start none (λ x. grind (arith, nat_tests)) (λ x. grind (arith, nat_tests)) nothing-held (none_waiting r quiet)
+  shown_start = same_state (shown r) start none (λ x. grind (arith, nat_tests)) (λ x. grind (arith, nat_tests)) nothing_held (none_waiting r quiet)
 
-  pub tidy-start : r.front ≡ 0 → Tidy r
+  pub tidy_start : r.front ≡ 0 → Tidy r
   unfolding rank
-  tidy-start f = tidy_by r start fits shown-start (λ x. omega arith) (λ t w e. absurd (some_none w None e refl)) (omega (arith, f, quiet))
+  tidy_start f = tidy_by r start fits shown_start (λ x. omega arith) (λ t w e. absurd (some_none w None e refl)) (omega (arith, f, quiet))

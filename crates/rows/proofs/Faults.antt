@@ -10,7 +10,7 @@ use Rattle.machine.specs.Calls.{land, define, apply, land_fault, define_fault}
 use Rattle.machine.specs.Tables.{answered}
 use Rattle.std.proofs.lemmas.Bool.{ltb-true}
 use Rattle.machine.proofs.Runs.{cond_some, cond_else}
-use Rattle.machine.proofs.Ranks.{rank-live, rank-dead}
+use Rattle.machine.proofs.Ranks.{rank_live, rank_dead}
 use Rattle.rows.specs.Layout.{Raw, Tidy, Becomes, Carries, Within, inside, shown}
 use Rattle.rows.specs.Calls.{give_fault}
 use Rattle.rows.proofs.Shown.{waits_are}
@@ -25,25 +25,25 @@ pub waits_told : (r : Raw) → waits (shown r).waiting ≡ ltb 0 r.waits
 waits_told r = waits_length (shown r).waiting ∙ ap (ltb 0) (waits_are r)
 
 module _ (r : Raw) (t : Slot) (capacity : ℕ) where
-  pub give-waiting : (there : Bool) → 0 < r.waits → Some refusal.Waiting ≡ give_fault (shown r) there t capacity
-  give-waiting there h = let w : ltb 0 r.waits ≡ true = grind (arith, nat_tests) in rw (waits_told r, w) refl
+  pub give_waiting : (there : Bool) → 0 < r.waits → Some refusal.Waiting ≡ give_fault (shown r) there t capacity
+  give_waiting there h = let w : ltb 0 r.waits ≡ true = grind (arith, nat_tests) in rw (waits_told r, w) refl
 
   module _ (quiet : r.waits ≤ 0) where
     calm : waits (shown r).waiting ≡ false
     calm = waits_told r ∙ grind (arith, nat_tests)
 
-    pub give-lost : (there : Bool) → there ≡ false → Some refusal.NotLiving ≡ give_fault (shown r) there t capacity
-    give-lost there h = rw (calm, h) refl
+    pub give_lost : (there : Bool) → there ≡ false → Some refusal.NotLiving ≡ give_fault (shown r) there t capacity
+    give_lost there h = rw (calm, h) refl
 
     module _ (there : Bool) (h : there ≡ true) where
-      pub give-filled : (v : ℕ) → (shown r).held t ≡ Some v → Some refusal.Filled ≡ give_fault (shown r) there t capacity
-      give-filled v e = rw (calm, h, e) refl
+      pub give_filled : (v : ℕ) → (shown r).held t ≡ Some v → Some refusal.Filled ≡ give_fault (shown r) there t capacity
+      give_filled v e = rw (calm, h, e) refl
 
-      pub give-full : (shown r).held t ≡ None → capacity ≤ r.given → Some refusal.Full ≡ give_fault (shown r) there t capacity
-      give-full e f = let w : ltb r.given capacity ≡ false = grind (arith, nat_tests) in rw (calm, h, e, w) refl
+      pub give_full : (shown r).held t ≡ None → capacity ≤ r.given → Some refusal.Full ≡ give_fault (shown r) there t capacity
+      give_full e f = let w : ltb r.given capacity ≡ false = grind (arith, nat_tests) in rw (calm, h, e, w) refl
 
-      pub give-none : (shown r).held t ≡ None → r.given < capacity → None ≡ give_fault (shown r) there t capacity
-      give-none e f = let w : ltb r.given capacity ≡ true = grind (arith, nat_tests) in rw (calm, h, e, w) refl
+      pub give_none : (shown r).held t ≡ None → r.given < capacity → None ≡ give_fault (shown r) there t capacity
+      give_none e f = let w : ltb r.given capacity ≡ true = grind (arith, nat_tests) in rw (calm, h, e, w) refl
 
 -- where nothing stands against it, there is such a slot and a number is free
 pub give_room : (s : State) (t : Slot) (capacity : ℕ) (there : Bool) → None ≡ give_fault s there t capacity → (there ≡ true) × (s.given < capacity)
@@ -62,8 +62,8 @@ module _ (L : Loaded) (r : Raw) (c : Carries L r.shape) where
     | inr a ↦ rw (c.kinds, a.0) refl
   ]
 
-  pub land-given : (k q : ℕ) (there : Bool) → there ≡ inside r.shape r.given (landing k q) → give_fault (shown r) there (landing k q) r.shape.capacity ≡ land_fault L (shown r) k q
-  land-given k q there e = rw (e, counted k q, ← c.capacity) refl
+  pub land_given : (k q : ℕ) (there : Bool) → there ≡ inside r.shape r.given (landing k q) → give_fault (shown r) there (landing k q) r.shape.capacity ≡ land_fault L (shown r) k q
+  land_given k q there e = rw (e, counted k q, ← c.capacity) refl
 
   pub leaving : (e l from : ℕ) → (l < r.shape.links → L.from l ≡ from) →
       (lives (shown r) e && (ltb l r.shape.links && eqb ((shown r).kind e) from)) ≡ (lives (shown r) e && (ltb l L.links && eqb ((shown r).kind e) (L.from l)))
@@ -72,9 +72,9 @@ module _ (L : Loaded) (r : Raw) (c : Carries L r.shape) where
     | inr a ↦ rw (c.links, a.0) refl
   ]
 
-  pub define-given : (e l from : ℕ) (there : Bool) → (l < r.shape.links → L.from l ≡ from) → there ≡ (lives (shown r) e && (ltb l r.shape.links && eqb ((shown r).kind e) from)) →
+  pub define_given : (e l from : ℕ) (there : Bool) → (l < r.shape.links → L.from l ≡ from) → there ≡ (lives (shown r) e && (ltb l r.shape.links && eqb ((shown r).kind e) from)) →
       give_fault (shown r) there (cell e l) r.shape.capacity ≡ define_fault L (shown r) e l
-  define-given e l from there h p = rw (p, leaving e l from h, ← c.capacity) refl
+  define_given e l from there h p = rw (p, leaving e l from h, ← c.capacity) refl
 
 -- a living entry and a link have a cell
 pub leaves_within : (r : Raw) (e l from : ℕ) (there : Bool) → there ≡ (lives (shown r) e && (ltb l r.shape.links && eqb ((shown r).kind e) from)) → there ≡ true →
@@ -89,17 +89,17 @@ pub done : (o : Option Refusal) (x y : ℕ) → None ≡ o → x ≡ y → Ok x 
 done o x y e p = rw (← e, p) refl
 
 module _ (L : Loaded) (a : Raw) (ok : Tidy a) where
-  pub land-refused : (k q : ℕ) (f : Refusal) → Some f ≡ land_fault L (shown a) k q → Becomes a (apply L (land k q)) a
-  land-refused k q f e = becomes_as a a (λ s. s) (apply L (land k q)) (becomes_none a ok) (rw (← e) refl)
+  pub land_refused : (k q : ℕ) (f : Refusal) → Some f ≡ land_fault L (shown a) k q → Becomes a (apply L (land k q)) a
+  land_refused k q f e = becomes_as a a (λ s. s) (apply L (land k q)) (becomes_none a ok) (rw (← e) refl)
 
-  pub land-done : (k q kind : ℕ) (b : Raw) → None ≡ land_fault L (shown a) k q → L.kind_map k ≡ kind → Becomes a (born kind (landing k q)) b → Becomes a (apply L (land k q)) b
-  land-done k q kind b e p h = becomes_as a b (born kind (landing k q)) (apply L (land k q)) h (rw (← e, ← p) refl)
+  pub land_done : (k q kind : ℕ) (b : Raw) → None ≡ land_fault L (shown a) k q → L.kind_map k ≡ kind → Becomes a (born kind (landing k q)) b → Becomes a (apply L (land k q)) b
+  land_done k q kind b e p h = becomes_as a b (born kind (landing k q)) (apply L (land k q)) h (rw (← e, ← p) refl)
 
-  pub define-refused : (e l : ℕ) (f : Refusal) → Some f ≡ define_fault L (shown a) e l → Becomes a (apply L (define e l)) a
-  define-refused e l f p = becomes_as a a (λ s. s) (apply L (define e l)) (becomes_none a ok) (rw (← p) refl)
+  pub define_refused : (e l : ℕ) (f : Refusal) → Some f ≡ define_fault L (shown a) e l → Becomes a (apply L (define e l)) a
+  define_refused e l f p = becomes_as a a (λ s. s) (apply L (define e l)) (becomes_none a ok) (rw (← p) refl)
 
-  pub define-done : (e l to : ℕ) (b : Raw) → None ≡ define_fault L (shown a) e l → L.to l ≡ to → Becomes a (born to (cell e l)) b → Becomes a (apply L (define e l)) b
-  define-done e l to b p q h = becomes_as a b (born to (cell e l)) (apply L (define e l)) h (rw (← p, ← q) refl)
+  pub define_done : (e l to : ℕ) (b : Raw) → None ≡ define_fault L (shown a) e l → L.to l ≡ to → Becomes a (born to (cell e l)) b → Becomes a (apply L (define e l)) b
+  define_done e l to b p q h = becomes_as a b (born to (cell e l)) (apply L (define e l)) h (rw (← p, ← q) refl)
 
 -- the living are counted
 pub rank_none : (f : ℕ → ℕ) → 0 ≡ rank f 0
@@ -107,8 +107,8 @@ unfolding rank
 rank_none f = refl
 
 module _ (s : State) (e k : ℕ) (p : k ≡ rank s.forward e) where
-  pub one-lives : true ≡ lives s e → k + 1 ≡ rank s.forward (e + 1)
-  one-lives h = let a : s.forward e ≡ e = (let b = sym h in grind (arith, nat_tests)) in rw (add-one e) (omega (arith, rank-live s.forward e a))
+  pub one_lives : true ≡ lives s e → k + 1 ≡ rank s.forward (e + 1)
+  one_lives h = let a : s.forward e ≡ e = (let b = sym h in grind (arith, nat_tests)) in rw (add-one e) (omega (arith, rank_live s.forward e a))
 
-  pub one-is-dead : e < s.given → false ≡ lives s e → k ≡ rank s.forward (e + 1)
-  one-is-dead g h = rw (add-one e) (p ∙ sym (rank-dead s.forward e (λ q. let z : lives s e ≡ true = grind (arith, nat_tests) in let y : ◌≡◌ {A = ℕ} 0 1 = cc in omega arith)))
+  pub one_is_dead : e < s.given → false ≡ lives s e → k ≡ rank s.forward (e + 1)
+  one_is_dead g h = rw (add-one e) (p ∙ sym (rank_dead s.forward e (λ q. let z : lives s e ≡ true = grind (arith, nat_tests) in let y : ◌≡◌ {A = ℕ} 0 1 = cc in omega arith)))

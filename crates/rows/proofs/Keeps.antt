@@ -8,11 +8,11 @@ use Rattle.machine.specs.Settling.{pop}
 use Rattle.machine.specs.Sweeping.{rank}
 use Rattle.machine.proofs.Fill.{some_same, some_none, put_held}
 use Rattle.machine.proofs.Merge.{turned_cases}
-use Rattle.machine.proofs.Ranks.{rank-live, rank-after}
+use Rattle.machine.proofs.Ranks.{rank_live, rank_after}
 use Rattle.rows.specs.Layout.{Raw, Shape, Fits, Tidy, Same, Becomes, Copied, Within, spot, place, shown, forward_of, decode}
 use Rattle.rows.specs.Writes.{changed, emptied, added}
-use Rattle.rows.proofs.Places.{spot-copied, copied-low, within_more}
-use Rattle.rows.proofs.Shown.{with, decode_more, shown-hold, grown, length-grown, grown-low, shown-grown, dead, dead-low, shown-dead, popped, shown_popped}
+use Rattle.rows.proofs.Places.{spot_copied, copied_low, within_more}
+use Rattle.rows.proofs.Shown.{with, decode_more, shown_hold, grown, length_grown, grown_low, shown_grown, dead, dead_low, shown_dead, popped, shown_popped}
 
 -- what a held entry is below
 abbrev pub AllGiven : State → Type 0
@@ -41,7 +41,7 @@ fits_with r ws given waits f l few = record {
 
 -- words that differ from the entries on only
 pub same_low : (r : Raw) (ws : List ℕ) (given waits : ℕ) → Fits r → length ws ≡ length r.ws → ((i : ℕ) → i < r.shape.base → get_or ws i 0 ≡ get_or r.ws i 0) → Same r (with r ws given waits)
-same_low r ws given waits f l e = record { shape = refl; size = l; copies = λ i c. e i (copied-low r f i c) }
+same_low r ws given waits f l e = record { shape = refl; size = l; copies = λ i c. e i (copied_low r f i c) }
 
 -- one after another
 pub same_then : (a b c : Raw) → Same a b → Same b c → Same a c
@@ -62,23 +62,23 @@ becomes_as a b f g p e = record { tidy = p.tidy; state = p.state ∙ e; same = p
 
 -- a slot is written
 module _ (r : Raw) (ok : Tidy r) (t : Slot) (in-t : Within r.shape r.given t) where
-  becomes-held : (w : ℕ) (o : Option ℕ) → decode w ≡ o → ((v : ℕ) → o ≡ Some v → v < r.given) → Becomes r (hold t o) (with r (set r.ws (spot r.shape t) w) r.given r.waits)
-  becomes-held w o d h =
+  becomes_held : (w : ℕ) (o : Option ℕ) → decode w ≡ o → ((v : ℕ) → o ≡ Some v → v < r.given) → Becomes r (hold t o) (with r (set r.ws (spot r.shape t) w) r.given r.waits)
+  becomes_held w o d h =
       let l = length-set r.ws (spot r.shape t) w in
-      let q = shown-hold r ok.fits t w in-t ∙ ap (λ (z : Option ℕ). hold t z (shown r)) d in
+      let q = shown_hold r ok.fits t w in-t ∙ ap (λ (z : Option ℕ). hold t z (shown r)) d in
       record {
         tidy = tidy_by _ (hold t o (shown r)) (fits_with r (set r.ws (spot r.shape t) w) r.given r.waits ok.fits l ok.fits.few) q ok.lower
             (λ u v e. elim (put_held t o (shown r).held u v e) [ inl p ↦ h v p.1 | inr p ↦ ok.given u v p.1 ])
             ok.queued;
         state = q;
-        same = record { shape = refl; size = l; copies = λ i c. get_or-set_other r.ws (spot r.shape t) i w 0 (spot-copied r ok.fits t in-t i c) };
+        same = record { shape = refl; size = l; copies = λ i c. get_or-set_other r.ws (spot r.shape t) i w 0 (spot_copied r ok.fits t in-t i c) };
       }
 
-  pub becomes-filled : (at v : ℕ) → at ≡ spot r.shape t → v < r.given → Becomes r (hold t (Some v)) (with r (set r.ws at (v + 1)) r.given r.waits)
-  becomes-filled at v p h = rw p (becomes-held (v + 1) (Some v) (decode_more v) (λ w e. let z = some_same v w (Some v) refl e in omega arith))
+  pub becomes_filled : (at v : ℕ) → at ≡ spot r.shape t → v < r.given → Becomes r (hold t (Some v)) (with r (set r.ws at (v + 1)) r.given r.waits)
+  becomes_filled at v p h = rw p (becomes_held (v + 1) (Some v) (decode_more v) (λ w e. let z = some_same v w (Some v) refl e in omega arith))
 
-  pub becomes-empty : (at : ℕ) → at ≡ spot r.shape t → Becomes r (hold t None) (with r (set r.ws at 0) r.given r.waits)
-  becomes-empty at p = rw p (becomes-held 0 None refl (λ w e. absurd (some_none w None e refl)))
+  pub becomes_empty : (at : ℕ) → at ≡ spot r.shape t → Becomes r (hold t None) (with r (set r.ws at 0) r.given r.waits)
+  becomes_empty at p = rw p (becomes_held 0 None refl (λ w e. absurd (some_none w None e refl)))
 
 -- an entry that is not given is its own forward
 pub forward_fresh : (r : Raw) → (shown r).forward r.given ≡ r.given
@@ -92,15 +92,15 @@ becomes_added r ok k at ws free e0 e =
     let e1 : at + 1 ≡ place r.shape.base r.shape.links r.given 1 = omega arith in
     let e3 : at + 3 ≡ place r.shape.base r.shape.links r.given 3 = omega arith in
     let p : ws ≡ grown r ok.fits k free = rw (← e1, ← e3, ← e0) e in
-    let l = length-grown r ok.fits k free in
-    let q = shown-grown r ok.fits k free in
-    let n = rank-live (shown r).forward r.given (forward_fresh r) in
+    let l = length_grown r ok.fits k free in
+    let q = shown_grown r ok.fits k free in
+    let n = rank_live (shown r).forward r.given (forward_fresh r) in
     rw p (record {
       tidy = tidy_by _ (added k (shown r)) (fits_with r (grown r ok.fits k free) (r.given + 1) r.waits ok.fits l (omega arith)) q ok.lower
           (λ t w h. omega (arith, ok.given t w h))
           (omega (arith, n, ok.queued));
       state = q;
-      same = same_low r (grown r ok.fits k free) (r.given + 1) r.waits ok.fits l (grown-low r ok.fits k free);
+      same = same_low r (grown r ok.fits k free) (r.given + 1) r.waits ok.fits l (grown_low r ok.fits k free);
     })
 
 -- a slot keeps its word
@@ -117,21 +117,21 @@ becomes_born a b c k n t e p q = becomes_as a c (λ s. hold t (Some n) (added k 
 
 -- where an entry lives, the waiting list has room
 module _ (r : Raw) (ok : Tidy r) (v u : ℕ) (here : v < r.given) (less : u < v) (lives : (shown r).forward v ≡ v) where
-  pub wait-room : r.front + r.waits < r.shape.capacity
-  wait-room = omega (arith, rank-after (shown r).forward v u lives less r.given here, ok.queued, ok.fits.few)
+  pub wait_room : r.front + r.waits < r.shape.capacity
+  wait_room = omega (arith, rank_after (shown r).forward v u lives less r.given here, ok.queued, ok.fits.few)
 
-  pub becomes-dead : (at last : ℕ) → at ≡ place r.shape.base r.shape.links v 1 → last ≡ place r.shape.base r.shape.links (r.front + r.waits) 2 →
+  pub becomes_dead : (at last : ℕ) → at ≡ place r.shape.base r.shape.links v 1 → last ≡ place r.shape.base r.shape.links (r.front + r.waits) 2 →
       Becomes r (die v u) (with r (set (set r.ws at u) last v) r.given (r.waits + 1))
-  becomes-dead at last p p2 =
-      let l : length (dead r ok.fits v u here wait-room) ≡ length r.ws = simp length-set in
-      let q = shown-dead r ok.fits v u here wait-room in
+  becomes_dead at last p p2 =
+      let l : length (dead r ok.fits v u here wait_room) ≡ length r.ws = simp length-set in
+      let q = shown_dead r ok.fits v u here wait_room in
       rw (p, p2) (record {
-        tidy = tidy_by _ (die v u (shown r)) (fits_with r (dead r ok.fits v u here wait-room) r.given (r.waits + 1) ok.fits l ok.fits.few) q
+        tidy = tidy_by _ (die v u (shown r)) (fits_with r (dead r ok.fits v u here wait_room) r.given (r.waits + 1) ok.fits l ok.fits.few) q
             (λ x. elim (turned_cases (shown r).forward v u x) [ inl e ↦ omega (arith, e.0, e.1) | inr e ↦ omega (arith, e.1, ok.lower x) ])
             ok.given
-            (omega (arith, rank-after (shown r).forward v u lives less r.given here, ok.queued));
+            (omega (arith, rank_after (shown r).forward v u lives less r.given here, ok.queued));
         state = q;
-        same = same_low r (dead r ok.fits v u here wait-room) r.given (r.waits + 1) ok.fits l (dead-low r ok.fits v u here wait-room);
+        same = same_low r (dead r ok.fits v u here wait_room) r.given (r.waits + 1) ok.fits l (dead_low r ok.fits v u here wait_room);
       })
 
 -- the first that waits is taken from the list

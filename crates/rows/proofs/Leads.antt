@@ -6,7 +6,7 @@ use Rattle.machine.specs.Loaded.{Loaded}
 use Rattle.machine.specs.State.{landing}
 use Rattle.rows.specs.Layout.{Raw, inside}
 use Rattle.rows.specs.Standing.{Leads, Holds}
-use Rattle.rows.proofs.Outline.{source-links-are, source-few}
+use Rattle.rows.proofs.Outline.{source_links_are, source_few}
 use Rattle.rows.proofs.Checks.{same_test, counted}
 
 -- where a source link leads a record
@@ -29,17 +29,17 @@ module _ (L : Loaded) (r : Raw) (f : Found) (leads : List ℕ) (x : Holds L r f 
     tested = t ∙ same_test L r f i (record { from = e.0; q = q; to = e.1; led = L.lead i q }) (leading (L.lead i q) (λ h k. refl))
 
     module _ (yes : b ≡ true) where
-      there-is : (i < L.source_links) × (q < L.count (L.source_from i))
-      there-is = counted L r f i (record { from = e.0; q = q; to = e.1; led = L.lead i q }) (leading (L.lead i q) (λ h k. refl)) (sym tested ∙ yes)
+      there_is : (i < L.source_links) × (q < L.count (L.source_from i))
+      there_is = counted L r f i (record { from = e.0; q = q; to = e.1; led = L.lead i q }) (leading (L.lead i q) (λ h k. refl)) (sym tested ∙ yes)
 
-      pub lead-link : i < 64
-      lead-link = omega (arith, there-is.0, source-links-are L r f x.stands, source-few L r f x.stands)
+      pub lead_link : i < 64
+      lead_link = omega (arith, there_is.0, source_links_are L r f x.stands, source_few L r f x.stands)
 
       pub lead_in : get_or leads i 0 + q < length r.ws
-      lead_in = (x.led i q there-is.0 there-is.1).0
+      lead_in = (x.led i q there_is.0 there_is.1).0
 
-    pub lead-none : b ≡ false → Leads L r f i (record { from = e.0; q = q; to = e.1; led = 0 })
-    lead-none off = leading 0 (λ h k. absurd (
+    pub lead_none : b ≡ false → Leads L r f i (record { from = e.0; q = q; to = e.1; led = 0 })
+    lead_none off = leading 0 (λ h k. absurd (
         let u = lt-ltb i L.source_links h in
         let v = lt-ltb q (L.count (L.source_from i)) k in
         let z : ◌≡◌ {A = ℕ} 0 1 = cc (tested, off, v, ap (λ c. c && ltb q (L.count (L.source_from i))) u) in

@@ -18,26 +18,26 @@ Comes r (ended a) = a < r.given
 Comes r (stopped t n) = Within r.shape r.given t
 
 module _ (r : Raw) (tidy : Tidy r) where
-  pub walk-comes : (ls : List ℕ) (e : ℕ) → e < r.given → Below r.shape.links ls → Comes r (walk (shown r).held e ls)
+  pub walk_comes : (ls : List ℕ) (e : ℕ) → e < r.given → Below r.shape.links ls → Comes r (walk (shown r).held e ls)
   unfolding walk
-  walk-comes [] e h b = h
-  walk-comes (l ∷ ls) e h b = on_cases (Comes r) ((shown r).held (cell e l)) (stopped (cell e l) (length ls)) (λ w. walk (shown r).held w ls)
+  walk_comes [] e h b = h
+  walk_comes (l ∷ ls) e h b = on_cases (Comes r) ((shown r).held (cell e l)) (stopped (cell e l) (length ls)) (λ w. walk (shown r).held w ls)
       (λ q. (h, b.0))
-      (λ w q. walk-comes ls w (tidy.given (cell e l) w q) b.1)
+      (λ w q. walk_comes ls w (tidy.given (cell e l) w q) b.1)
 
-  pub walk-in-comes : (ls : List ℕ) (t : Slot) → Within r.shape r.given t → Below r.shape.links ls → Comes r (walk_in (shown r).held t ls)
-  walk-in-comes ls t h b = on_cases (Comes r) ((shown r).held t) (stopped t (length ls)) (λ w. walk (shown r).held w ls)
+  pub walk_in_comes : (ls : List ℕ) (t : Slot) → Within r.shape r.given t → Below r.shape.links ls → Comes r (walk_in (shown r).held t ls)
+  walk_in_comes ls t h b = on_cases (Comes r) ((shown r).held t) (stopped t (length ls)) (λ w. walk (shown r).held w ls)
       (λ q. h)
-      (λ w q. walk-comes ls w (tidy.given t w q) b)
+      (λ w q. walk_comes ls w (tidy.given t w q) b)
 
-  pub sides-named : (v w : Walked) → Comes r v → Comes r w → Named r (sides v w)
-  sides-named (ended a) (ended b) h k = go (eqb a b)
+  pub sides_named : (v w : Walked) → Comes r v → Comes r w → Named r (sides v w)
+  sides_named (ended a) (ended b) h k = go (eqb a b)
     where
       go : (t : Bool) → Named r (cond t closed (merges a b))
       go true = tt
       go false = (h, k)
-  sides-named (ended a) (stopped t zero) h k = (k, h)
-  sides-named (ended a) (stopped t (suc n)) h k = tt
-  sides-named (stopped t zero) (ended b) h k = (h, k)
-  sides-named (stopped t (suc n)) (ended b) h k = tt
-  sides-named (stopped t n) (stopped u m) h k = tt
+  sides_named (ended a) (stopped t zero) h k = (k, h)
+  sides_named (ended a) (stopped t (suc n)) h k = tt
+  sides_named (stopped t zero) (ended b) h k = (h, k)
+  sides_named (stopped t (suc n)) (ended b) h k = tt
+  sides_named (stopped t n) (stopped u m) h k = tt

@@ -28,11 +28,11 @@ schema_read side ws at k ls e =
 
 -- the word of a link
 module _ (kinds : ℕ) (ws : List ℕ) (at : ℕ) (ls : List Link) (e : links kinds ws at ≡ Ok ls) (l : ℕ) (h : l < length ls) where
-  pub link-in : at + l < length ws
-  link-in = link_inside kinds ws at (length ls) l (ap sized e) h
+  pub link_in : at + l < length ws
+  link_in = link_inside kinds ws at (length ls) l (ap sized e) h
 
-  pub link-ends : (fields (get_or ws (at + l) 0) / 256 ≡ (get_or ls l no_link).from) × (fields (get_or ws (at + l) 0) % 256 ≡ (get_or ls l no_link).to)
-  link-ends =
+  pub link_ends : (fields (get_or ws (at + l) 0) / 256 ≡ (get_or ls l no_link).from) × (fields (get_or ws (at + l) 0) % 256 ≡ (get_or ls l no_link).to)
+  link_ends =
       let x = link_from kinds ws at (length ls) l (fields (get_or ws (at + l) 0)) (ap sized e) h refl in
       let g = ap got e in
       (x.0 ∙ ap (λ ls. (get_or ls l no_link).from) g, x.1 ∙ ap (λ ls. (get_or ls l no_link).to) g)
@@ -62,52 +62,52 @@ module _ (L : Loaded) (r : Raw) (f : Found) (st : Stands L r f) where
   -- the links of one of the two schemas
   module _ (s : Schema) (ls : List Link) (e : links s.kinds ws s.place ≡ Ok ls) (n : s.links ≡ length ls) where
     linked : LinkedIn r.ws s
-    linked l h = (known (s.place + l) (link-in s.kinds ws s.place ls e l (omega arith))).0
+    linked l h = (known (s.place + l) (link_in s.kinds ws s.place ls e l (omega arith))).0
 
     ends : (l : ℕ) → l < s.links → ((get_or ls l no_link).from ≡ fields (get_or r.ws (s.place + l) 0) / 256) × ((get_or ls l no_link).to ≡ fields (get_or r.ws (s.place + l) 0) % 256)
     ends l h =
         let k : l < length ls = omega arith in
-        let w = (known (s.place + l) (link-in s.kinds ws s.place ls e l k)).1 in
-        let x = link-ends s.kinds ws s.place ls e l k in
+        let w = (known (s.place + l) (link_in s.kinds ws s.place ls e l k)).1 in
+        let x = link_ends s.kinds ws s.place ls e l k in
         (sym (ap (λ v. fields v / 256) w ∙ x.0), sym (ap (λ v. fields v % 256) w ∙ x.1))
 
-  source-read : links f.source.kinds ws f.source.place ≡ Ok p.source_links
-  source-read = ap (λ (s : Schema). links s.kinds ws s.place) source_told ∙ schema_read 0 ws 0 p.source_kinds p.source_links parts.sourced
+  source_read : links f.source.kinds ws f.source.place ≡ Ok p.source_links
+  source_read = ap (λ (s : Schema). links s.kinds ws s.place) source_told ∙ schema_read 0 ws 0 p.source_kinds p.source_links parts.sourced
 
-  target-read : links f.target.kinds ws f.target.place ≡ Ok p.target_links
-  target-read = ap (λ (s : Schema). links s.kinds ws s.place) target_told ∙ schema_read 1 ws (1 + length p.source_links) p.target_kinds p.target_links parts.targeted
+  target_read : links f.target.kinds ws f.target.place ≡ Ok p.target_links
+  target_read = ap (λ (s : Schema). links s.kinds ws s.place) target_told ∙ schema_read 1 ws (1 + length p.source_links) p.target_kinds p.target_links parts.targeted
 
-  pub source-linked : LinkedIn r.ws f.source
-  source-linked = linked f.source p.source_links source-read (ap (λ (s : Schema). s.links) source_told)
+  pub source_linked : LinkedIn r.ws f.source
+  source_linked = linked f.source p.source_links source_read (ap (λ (s : Schema). s.links) source_told)
 
-  pub target-linked : LinkedIn r.ws f.target
-  target-linked = linked f.target p.target_links target-read (ap (λ (s : Schema). s.links) target_told)
+  pub target_linked : LinkedIn r.ws f.target
+  target_linked = linked f.target p.target_links target_read (ap (λ (s : Schema). s.links) target_told)
 
-  pub source-links-are : f.source.links ≡ L.source_links
-  source-links-are = ap (λ (s : Schema). s.links) source_told ∙ sym (ap (λ (M : Loaded). M.source_links) st.takes)
+  pub source_links_are : f.source.links ≡ L.source_links
+  source_links_are = ap (λ (s : Schema). s.links) source_told ∙ sym (ap (λ (M : Loaded). M.source_links) st.takes)
 
-  pub source-few : f.source.links ≤ 64
-  source-few = let n = ap (λ (s : Schema). s.links) source_told in omega (arith, n, (read_layout ws p st.reads).1.source.few_links)
+  pub source_few : f.source.links ≤ 64
+  source_few = let n = ap (λ (s : Schema). s.links) source_told in omega (arith, n, (read_layout ws p st.reads).1.source.few_links)
 
-  pub target-links-are : f.target.links ≡ L.links
-  target-links-are = ap (λ (s : Schema). s.links) target_told ∙ sym (ap (λ (M : Loaded). M.links) st.takes)
+  pub target_links_are : f.target.links ≡ L.links
+  target_links_are = ap (λ (s : Schema). s.links) target_told ∙ sym (ap (λ (M : Loaded). M.links) st.takes)
 
-  pub source-kinds-are : f.source.kinds ≡ L.source_kinds
-  source-kinds-are = ap (λ (s : Schema). s.kinds) source_told ∙ sym (ap (λ (M : Loaded). M.source_kinds) st.takes)
+  pub source_kinds_are : f.source.kinds ≡ L.source_kinds
+  source_kinds_are = ap (λ (s : Schema). s.kinds) source_told ∙ sym (ap (λ (M : Loaded). M.source_kinds) st.takes)
 
   module _ (l : ℕ) (x : ℕ × ℕ) where
-    pub source-ends : (l < f.source.links → x.0 ≡ fields (get_or r.ws (f.source.place + l) 0) / 256) → (l < f.source.links → x.1 ≡ fields (get_or r.ws (f.source.place + l) 0) % 256)
+    pub source_ends : (l < f.source.links → x.0 ≡ fields (get_or r.ws (f.source.place + l) 0) / 256) → (l < f.source.links → x.1 ≡ fields (get_or r.ws (f.source.place + l) 0) % 256)
         → l < L.source_links → (L.source_from l ≡ x.0) × (L.source_to l ≡ x.1)
-    source-ends a b h =
-        let k : l < f.source.links = omega (arith, source-links-are) in
-        let e = ends f.source p.source_links source-read (ap (λ (s : Schema). s.links) source_told) l k in
+    source_ends a b h =
+        let k : l < f.source.links = omega (arith, source_links_are) in
+        let e = ends f.source p.source_links source_read (ap (λ (s : Schema). s.links) source_told) l k in
         (ap (λ (M : Loaded). M.source_from l) st.takes ∙ e.0 ∙ sym (a k), ap (λ (M : Loaded). M.source_to l) st.takes ∙ e.1 ∙ sym (b k))
 
-    pub target-ends : (l < f.target.links → x.0 ≡ fields (get_or r.ws (f.target.place + l) 0) / 256) → (l < f.target.links → x.1 ≡ fields (get_or r.ws (f.target.place + l) 0) % 256)
+    pub target_ends : (l < f.target.links → x.0 ≡ fields (get_or r.ws (f.target.place + l) 0) / 256) → (l < f.target.links → x.1 ≡ fields (get_or r.ws (f.target.place + l) 0) % 256)
         → l < L.links → (L.from l ≡ x.0) × (L.to l ≡ x.1)
-    target-ends a b h =
-        let k : l < f.target.links = omega (arith, target-links-are) in
-        let e = ends f.target p.target_links target-read (ap (λ (s : Schema). s.links) target_told) l k in
+    target_ends a b h =
+        let k : l < f.target.links = omega (arith, target_links_are) in
+        let e = ends f.target p.target_links target_read (ap (λ (s : Schema). s.links) target_told) l k in
         (ap (λ (M : Loaded). M.from l) st.takes ∙ e.0 ∙ sym (a k), ap (λ (M : Loaded). M.to l) st.takes ∙ e.1 ∙ sym (b k))
 
   -- the word of a kind map
@@ -124,6 +124,6 @@ module _ (L : Loaded) (r : Raw) (f : Found) (st : Stands L r f) where
     pub map_in : f.maps + k < length r.ws
     map_in = (known (f.maps + k) (map_inside p.source_kinds p.target_kinds ws f.maps k mapped there)).0
 
-    pub map-kind : L.kind_map k ≡ fields (get_or r.ws (f.maps + k) 0) % 256
-    map-kind = ap (λ (M : Loaded). M.kind_map k) st.takes ∙ sym (ap (λ v. fields v % 256) (known (f.maps + k) (map_inside p.source_kinds p.target_kinds ws f.maps k mapped there)).1
+    pub map_kind : L.kind_map k ≡ fields (get_or r.ws (f.maps + k) 0) % 256
+    map_kind = ap (λ (M : Loaded). M.kind_map k) st.takes ∙ sym (ap (λ v. fields v % 256) (known (f.maps + k) (map_inside p.source_kinds p.target_kinds ws f.maps k mapped there)).1
         ∙ map_is p.source_kinds p.target_kinds ws f.maps k _ mapped there refl ∙ ap (λ ks. get_or ks k 0) (ap got kinded))

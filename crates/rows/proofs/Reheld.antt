@@ -9,8 +9,8 @@ use Rattle.machine.specs.Settling.{swap, rehold}
 use Rattle.machine.proofs.Settle.{swap_held}
 use Rattle.rows.specs.Layout.{Raw, Fits, Tidy, Becomes, Copied, Within, inside, spot, place, word, decode, shown, kind_of, forward_of, waiting_of}
 use Rattle.rows.specs.Writes.{changed, changed_rows, swapped, over}
-use Rattle.rows.proofs.Places.{inside-true, landing-low, copied-low}
-use Rattle.rows.proofs.Writes.{length-changed, length-rows, changed-kept, getD-changed, rows-low, word_rows}
+use Rattle.rows.proofs.Places.{inside_true, landing_low, copied_low}
+use Rattle.rows.proofs.Writes.{length_changed, length_rows, changed_kept, get_d_changed, rows_low, word_rows}
 use Rattle.rows.proofs.Shown.{same_state, held_in, held_out, map_same}
 use Rattle.rows.proofs.Keeps.{tidy_by, fits_with}
 
@@ -30,7 +30,7 @@ decode_swapped v u w = elim (eqb_tells w 0) [
 -- the rows one by one, as the code comes to them
 module _ (f : ℕ → ℕ) (a b : Raw) (e : ℕ) (p : b ≡ over a (changed_rows f a.ws a.shape.base a.shape.links e)) where
   pub rows_fit : Fits a → Fits b
-  rows_fit ok = rw p (fits_with a (changed_rows f a.ws a.shape.base a.shape.links e) a.given a.waits ok (length-rows f a.ws a.shape.base a.shape.links e) ok.few)
+  rows_fit ok = rw p (fits_with a (changed_rows f a.ws a.shape.base a.shape.links e) a.given a.waits ok (length_rows f a.ws a.shape.base a.shape.links e) ok.few)
 
   pub rows_more : (c : Raw) → c ≡ over b (changed f b.ws (place b.shape.base b.shape.links e 3) b.shape.links) →
       c ≡ over a (changed_rows f a.ws a.shape.base a.shape.links (e + 1))
@@ -48,46 +48,46 @@ module _ (r : Raw) (ok : Tidy r) (v u : ℕ) where
   room = omega (arith, mul-le r.given (r.shape.links + 3) r.shape.capacity (r.shape.links + 3) ok.fits.few (omega arith), ok.fits.room)
 
   size : length rows ≡ length r.ws
-  size = length-rows (swapped (v + 1) (u + 1)) r.ws r.shape.base r.shape.links r.given
+  size = length_rows (swapped (v + 1) (u + 1)) r.ws r.shape.base r.shape.links r.given
 
-  pub lands-fit : r.shape.lands + r.shape.records ≤ length rows
-  lands-fit = omega (arith, size, ok.fits.below, ok.fits.room)
+  pub lands_fit : r.shape.lands + r.shape.records ≤ length rows
+  lands_fit = omega (arith, size, ok.fits.below, ok.fits.room)
 
-  length-all : length all ≡ length r.ws
-  length-all = length-changed (swapped (v + 1) (u + 1)) rows r.shape.lands r.shape.records ∙ size
+  length_all : length all ≡ length r.ws
+  length_all = length_changed (swapped (v + 1) (u + 1)) rows r.shape.lands r.shape.records ∙ size
 
   -- the words of the entries
-  word-all : (x y : ℕ) → y < r.shape.links + 3 → word all r.shape.base r.shape.links x y ≡
+  word_all : (x y : ℕ) → y < r.shape.links + 3 → word all r.shape.base r.shape.links x y ≡
       cond (ltb x r.given && leb 3 y) (swapped (v + 1) (u + 1) (word r.ws r.shape.base r.shape.links x y)) (word r.ws r.shape.base r.shape.links x y)
   unfolding word
-  word-all x y h = changed-kept (swapped (v + 1) (u + 1)) rows r.shape.lands r.shape.records (place r.shape.base r.shape.links x y) lands-fit (inr (omega (arith, ok.fits.below)))
+  word_all x y h = changed_kept (swapped (v + 1) (u + 1)) rows r.shape.lands r.shape.records (place r.shape.base r.shape.links x y) lands_fit (inr (omega (arith, ok.fits.below)))
       ∙ word_rows (swapped (v + 1) (u + 1)) r.ws r.shape.base r.shape.links r.given x y room h
 
   column : (x y : ℕ) → y < 3 → word all r.shape.base r.shape.links x y ≡ word r.ws r.shape.base r.shape.links x y
-  column x y h = word-all x y (omega arith) ∙ grind (arith, nat_tests)
+  column x y h = word_all x y (omega arith) ∙ grind (arith, nat_tests)
 
   -- the words of the slots
-  spot-all : (t : Slot) → Within r.shape r.given t → get_or all (spot r.shape t) 0 ≡ swapped (v + 1) (u + 1) (get_or r.ws (spot r.shape t) 0)
+  spot_all : (t : Slot) → Within r.shape r.given t → get_or all (spot r.shape t) 0 ≡ swapped (v + 1) (u + 1) (get_or r.ws (spot r.shape t) 0)
   unfolding word
-  spot-all (cell e l) w =
+  spot_all (cell e l) w =
       let a : (ltb e r.given && leb 3 (3 + l)) ≡ true = grind (arith, nat_tests) in
-      word-all e (3 + l) (omega arith) ∙ rw a refl
-  spot-all (landing k q) w =
-      let h = landing-low r ok.fits k q w in
-      let g = getD-changed (swapped (v + 1) (u + 1)) rows r.shape.lands r.shape.records (spot r.shape (landing k q)) lands-fit in
+      word_all e (3 + l) (omega arith) ∙ rw a refl
+  spot_all (landing k q) w =
+      let h = landing_low r ok.fits k q w in
+      let g = get_d_changed (swapped (v + 1) (u + 1)) rows r.shape.lands r.shape.records (spot r.shape (landing k q)) lands_fit in
       let a : (leb r.shape.lands (spot r.shape (landing k q)) && ltb (spot r.shape (landing k q)) (r.shape.lands + r.shape.records)) ≡ true = grind (arith, nat_tests) in
-      let b = rows-low (swapped (v + 1) (u + 1)) r.ws r.shape.base r.shape.links r.given (spot r.shape (landing k q)) room (omega (arith, ok.fits.below)) in
+      let b = rows_low (swapped (v + 1) (u + 1)) r.ws r.shape.base r.shape.links r.given (spot r.shape (landing k q)) room (omega (arith, ok.fits.below)) in
       g ∙ rw (a, b) refl
 
   held_all : (t : Slot) → (shown (over r all)).held t ≡ swap v u ((shown r).held t)
   held_all t = elim (cases_Bool (inside r.shape r.given t)) [
-    | inl b ↦ held_in (over r all) t b ∙ ap decode (spot-all t (inside-true r.shape r.given t b)) ∙ decode_swapped v u (get_or r.ws (spot r.shape t) 0) ∙ ap (swap v u) (sym (held_in r t b))
+    | inl b ↦ held_in (over r all) t b ∙ ap decode (spot_all t (inside_true r.shape r.given t b)) ∙ decode_swapped v u (get_or r.ws (spot r.shape t) 0) ∙ ap (swap v u) (sym (held_in r t b))
     | inr b ↦ sym (held_out (over r all) t b) ∙ ap (swap v u) (held_out r t b)
   ]
 
-  shown-all : shown (over r all) ≡ rehold v u (shown r)
+  shown_all : shown (over r all) ≡ rehold v u (shown r)
   unfolding kind_of forward_of waiting_of
-  shown-all = same_state _ _ refl
+  shown_all = same_state _ _ refl
       (λ x. ap (λ n. cond (ltb x r.given) n 0) (column x 0 (omega arith)))
       (λ x. ap (λ n. cond (ltb x r.given) n x) (column x 1 (omega arith)))
       held_all
@@ -97,27 +97,27 @@ module _ (r : Raw) (ok : Tidy r) (v u : ℕ) where
   copied_all i (inl a) = inl a
   copied_all i (inr a) = inr a.0
 
-  pub becomes-reheld : u < r.given → Becomes r (rehold v u) (over r all)
-  becomes-reheld h = record {
-    tidy = tidy_by (over r all) (rehold v u (shown r)) (fits_with r all r.given r.waits ok.fits length-all ok.fits.few) shown-all ok.lower
+  pub becomes_reheld : u < r.given → Becomes r (rehold v u) (over r all)
+  becomes_reheld h = record {
+    tidy = tidy_by (over r all) (rehold v u (shown r)) (fits_with r all r.given r.waits ok.fits length_all ok.fits.few) shown_all ok.lower
         (λ t w e. elim (swap_held v u ((shown r).held t) w e) [ inl q ↦ omega (arith, q.1) | inr q ↦ ok.given t w q.0 ])
         ok.queued;
-    state = shown-all;
+    state = shown_all;
     same = record {
       shape = refl;
-      size = length-all;
+      size = length_all;
       copies = λ i c.
-          changed-kept (swapped (v + 1) (u + 1)) rows r.shape.lands r.shape.records i lands-fit (copied_all i c)
-          ∙ rows-low (swapped (v + 1) (u + 1)) r.ws r.shape.base r.shape.links r.given i room (copied-low r ok.fits i c);
+          changed_kept (swapped (v + 1) (u + 1)) rows r.shape.lands r.shape.records i lands_fit (copied_all i c)
+          ∙ rows_low (swapped (v + 1) (u + 1)) r.ws r.shape.base r.shape.links r.given i room (copied_low r ok.fits i c);
     };
   }
 
   -- as the code comes to it: the cells of all entries, and then the landings
   module _ (z : Raw) (p : z ≡ over r rows) where
-    pub lands-in : z.shape.lands + z.shape.records ≤ length z.ws
-    lands-in = rw p lands-fit
+    pub lands_in : z.shape.lands + z.shape.records ≤ length z.ws
+    lands_in = rw p lands_fit
 
-    pub becomes-replaced : (ws : List ℕ) → ws ≡ changed (swapped (v + 1) (u + 1)) z.ws z.shape.lands z.shape.records → u < r.given → Becomes r (rehold v u) (over z ws)
-    becomes-replaced ws q h =
+    pub becomes_replaced : (ws : List ℕ) → ws ≡ changed (swapped (v + 1) (u + 1)) z.ws z.shape.lands z.shape.records → u < r.given → Becomes r (rehold v u) (over z ws)
+    becomes_replaced ws q h =
         let e : over z ws ≡ over r all = ap (over z) q ∙ ap (λ (y : Raw). over y (changed (swapped (v + 1) (u + 1)) y.ws y.shape.lands y.shape.records)) p in
-        rw e (becomes-reheld h)
+        rw e (becomes_reheld h)

@@ -5,7 +5,7 @@ use Rattle.machine.specs.Loaded.{Loaded}
 use Rattle.machine.specs.State.{State, cell, hold, on}
 use Rattle.machine.specs.Merging.{end, die, meet, merge}
 use Rattle.machine.specs.Settling.{rehold, take_over, pull, drain, pop, settled_first, settled}
-use Rattle.machine.proofs.Base.{chase-lives, chase-lower}
+use Rattle.machine.proofs.Base.{chase_lives, chase_lower}
 use Rattle.machine.proofs.Merge.{meet_cases}
 use Rattle.machine.proofs.Check.{on_cases}
 use Rattle.rows.specs.Layout.{Raw, Shape, Becomes, shown}
@@ -14,38 +14,38 @@ use Rattle.rows.proofs.Keeps.{becomes_as, becomes_then}
 
 -- a living end was given where its entry was, and lives
 pub end_is : (s : State) → ((x : ℕ) → s.forward x ≤ x) → (e x : ℕ) → x ≡ end s e → e < s.given → (x < s.given) × (s.forward x ≡ x)
-end_is s d e x p h = (omega (arith, chase-lower s.forward d e e), rw p (chase-lives s.forward d e e (omega arith)))
+end_is s d e x p h = (omega (arith, chase_lower s.forward d e e), rw p (chase_lives s.forward d e e (omega arith)))
 
 module _ (s : State) (a b x y : ℕ) (ex : x ≡ end s a) (ey : y ≡ end s b) where
-  pub merge-first : x < y → die y x s ≡ merge a b s
+  pub merge_first : x < y → die y x s ≡ merge a b s
   unfolding meet
-  merge-first h = rw (← ex, ← ey) (let t : ltb x y ≡ true = grind (arith, nat_tests) in rw t refl)
+  merge_first h = rw (← ex, ← ey) (let t : ltb x y ≡ true = grind (arith, nat_tests) in rw t refl)
 
-  pub merge-second : y < x → die x y s ≡ merge a b s
+  pub merge_second : y < x → die x y s ≡ merge a b s
   unfolding meet
-  merge-second h = rw (← ex, ← ey) (let t : ltb x y ≡ false = grind (arith, nat_tests) in let q : ltb y x ≡ true = grind (arith, nat_tests) in rw (t, q) refl)
+  merge_second h = rw (← ex, ← ey) (let t : ltb x y ≡ false = grind (arith, nat_tests) in let q : ltb y x ≡ true = grind (arith, nat_tests) in rw (t, q) refl)
 
-  pub merge-same : x ≤ y → y ≤ x → s ≡ merge a b s
+  pub merge_same : x ≤ y → y ≤ x → s ≡ merge a b s
   unfolding meet
-  merge-same h k = rw (← ex, ← ey) (let t : ltb x y ≡ false = grind (arith, nat_tests) in let q : ltb y x ≡ false = grind (arith, nat_tests) in rw (t, q) refl)
+  merge_same h k = rw (← ex, ← ey) (let t : ltb x y ≡ false = grind (arith, nat_tests) in let q : ltb y x ≡ false = grind (arith, nat_tests) in rw (t, q) refl)
 
 module _ (s : State) (u l w : ℕ) where
-  pub take-empty : s.held (cell u l) ≡ None → hold (cell u l) (Some w) s ≡ take_over u l w s
+  pub take_empty : s.held (cell u l) ≡ None → hold (cell u l) (Some w) s ≡ take_over u l w s
   unfolding take_over
-  take-empty p = rw p refl
+  take_empty p = rw p refl
 
-  pub take-filled : (d : ℕ) → s.held (cell u l) ≡ Some d → merge d w s ≡ take_over u l w s
+  pub take_filled : (d : ℕ) → s.held (cell u l) ≡ Some d → merge d w s ≡ take_over u l w s
   unfolding take_over
-  take-filled d p = rw p refl
+  take_filled d p = rw p refl
 
 module _ (s : State) (v l : ℕ) where
-  pub pull-none : s.held (cell v l) ≡ None → s ≡ pull v l s
+  pub pull_none : s.held (cell v l) ≡ None → s ≡ pull v l s
   unfolding pull
-  pull-none p = rw p refl
+  pull_none p = rw p refl
 
-  pub pull-some : (c u w : ℕ) → s.held (cell v l) ≡ Some c → u ≡ end s v → w ≡ end s c → take_over u l w (hold (cell v l) None s) ≡ pull v l s
+  pub pull_some : (c u w : ℕ) → s.held (cell v l) ≡ Some c → u ≡ end s v → w ≡ end s c → take_over u l w (hold (cell v l) None s) ≡ pull v l s
   unfolding pull
-  pull-some c u w p eu ew = rw (p, eu, ew) refl
+  pull_some c u w p eu ew = rw (p, eu, ew) refl
 
 -- settling gives no entry, and those that wait go on waiting
 pub record On (s z : State) : Type 0 where
@@ -96,11 +96,11 @@ settle_is L s v u n = settle_first L s v u n s.waiting
 
 -- the same on the words
 module _ (a b c : Raw) (v u : ℕ) (p : Becomes a (rehold v u) b) (q : Becomes b (drain v b.shape.links) c) (some : 0 < a.waits) where
-  pub still-waits : 0 < c.waits
-  still-waits = omega (arith, some, waits_are a, waits_are c, ap (λ (s : State). length s.waiting) p.state, ap (λ (s : State). length s.waiting) q.state, (drain_on (shown b) v b.shape.links).waits)
+  pub still_waits : 0 < c.waits
+  still_waits = omega (arith, some, waits_are a, waits_are c, ap (λ (s : State). length s.waiting) p.state, ap (λ (s : State). length s.waiting) q.state, (drain_on (shown b) v b.shape.links).waits)
 
-  pub becomes-settled : (d : Raw) → Becomes c pop d → v ≡ get_or (shown a).waiting 0 0 → u ≡ end (shown a) v → (L : Loaded) → L.links ≡ a.shape.links → Becomes a (settled L) d
-  becomes-settled d o first ends L e =
+  pub becomes_settled : (d : Raw) → Becomes c pop d → v ≡ get_or (shown a).waiting 0 0 → u ≡ end (shown a) v → (L : Loaded) → L.links ≡ a.shape.links → Becomes a (settled L) d
+  becomes_settled d o first ends L e =
       becomes_as a d (λ s. pop (drain v b.shape.links (rehold v u s))) (settled L)
       (becomes_then a c d (λ s. drain v b.shape.links (rehold v u s)) pop (becomes_then a b c (rehold v u) (drain v b.shape.links) p q) o)
       (settle_is L (shown a) v u b.shape.links (omega (arith, some, waits_are a)) first ends (e ∙ ap (λ (h : Shape). h.links) (sym p.same.shape)))

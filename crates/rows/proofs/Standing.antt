@@ -23,7 +23,7 @@ use Rattle.machine.specs.Checking.{rule_effect}
 use Rattle.rows.specs.Layout.{Raw, Shape, Same, Tidy, shown}
 use Rattle.rows.specs.Walks.{links, Named}
 use Rattle.rows.proofs.Bridge.{same_problem}
-use Rattle.rows.proofs.Named.{Below, walk-comes, sides-named}
+use Rattle.rows.proofs.Named.{Below, walk_comes, sides_named}
 use Rattle.rows.specs.Standing.{Stands, parts_in, linked, path_in, rule_of}
 
 -- the words of steps, and their links again
@@ -50,8 +50,8 @@ maps_below ss km ts n [] a = tt
 maps_below ss km ts n (q ∷ qs) a = (walks_below ts _ q _ a.0.walks, maps_below ss km ts (n + 1) qs a.1)
 
 module _ (p : Problem) (w : WellFormed p) (i : ℕ) where
-  rule-below : Below (length p.target_links) (get_or p.rules i no_rule).left × Below (length p.target_links) (get_or p.rules i no_rule).right
-  rule-below =
+  rule_below : Below (length p.target_links) (get_or p.rules i no_rule).left × Below (length p.target_links) (get_or p.rules i no_rule).right
+  rule_below =
       everywhere (λ q. Below (length p.target_links) q.left × Below (length p.target_links) q.right) no_rule p.rules (tt, tt)
       (All-weaker (GoodRule p.target_kinds p.target_links) (λ q. Below (length p.target_links) q.left × Below (length p.target_links) q.right) (λ q g. (walks_below _ _ _ _ g.left_walks, walks_below _ _ _ _ g.right_walks)) p.rules w.rules)
       i
@@ -66,7 +66,7 @@ module _ (p : Problem) (w : WellFormed p) (i : ℕ) where
 rule_tokened : (p : Problem) (w : WellFormed p) (i : ℕ) →
     linked (parts_in (rule_token (Ok p) i)) ≡ cond (ltb i (length p.rules)) (Some ((get_or p.rules i no_rule).first, (get_or p.rules i no_rule).left, (get_or p.rules i no_rule).right)) None
 rule_tokened p w i =
-    let b = rule-below p w i in
+    let b = rule_below p w i in
     elim (leb_tells (suc i) (length p.rules)) [
       | inl t ↦ rw (t.0, short p w i (get_or p.rules i no_rule).left b.0, short p w i (get_or p.rules i no_rule).right b.1)
       | inr t ↦ rw t.0
@@ -88,32 +88,32 @@ module _ (L : Loaded) (r : Raw) (f : Found) (st : Stands L r f) (i : ℕ) where
       let e : length st.problem.target_links ≡ r.shape.links = sym (ap (λ (M : Loaded). M.links) st.takes) ∙ st.links in
       subst (λ (M : Loaded). Below r.shape.links (g M)) (sym st.takes) (subst (λ n. Below n (g (taken st.problem st.source r.shape.capacity))) e b)
 
-  pub rule-links : Below r.shape.links (L.left i) × Below r.shape.links (L.right i)
-  rule-links = let b = rule-below st.problem well i in (known (λ M. M.left i) b.0, known (λ M. M.right i) b.1)
+  pub rule_links : Below r.shape.links (L.left i) × Below r.shape.links (L.right i)
+  rule_links = let b = rule_below st.problem well i in (known (λ M. M.left i) b.0, known (λ M. M.right i) b.1)
 
-  pub map-links : Below r.shape.links (L.link_map i)
-  map-links = known (λ M. M.link_map i) (map_below st.problem well i)
+  pub map_links : Below r.shape.links (L.link_map i)
+  map_links = known (λ M. M.link_map i) (map_below st.problem well i)
 
   -- what is told of the problem that was read
   told : (token : Result Problem SchemaFault → ℕ → Option Shown) (o : Option Shown) →
       (outline.told (Ok f) ≡ outline.outline_of (read (take r.shape.lands r.ws)) → o ≡ token (read (take r.shape.lands r.ws)) i) → o ≡ token (Ok st.problem) i
   told token o tells = tells (st.told ∙ ap outline.outline_of (sym st.reads)) ∙ ap (λ x. token x i) st.reads
 
-  pub rule-stands : (o : Option Shown) → (outline.told (Ok f) ≡ outline.outline_of (read (take r.shape.lands r.ws)) → o ≡ rule_token (read (take r.shape.lands r.ws)) i) →
+  pub rule_stands : (o : Option Shown) → (outline.told (Ok f) ≡ outline.outline_of (read (take r.shape.lands r.ws)) → o ≡ rule_token (read (take r.shape.lands r.ws)) i) →
       linked (parts_in o) ≡ rule_of L i
-  rule-stands o tells =
+  rule_stands o tells =
       ap (λ (x : Option Shown). linked (parts_in x)) (told rule_token o tells) ∙ rule_tokened st.problem well i ∙ sym (ap (λ (M : Loaded). rule_of M i) st.takes)
 
-  pub map-stands : (o : Option Shown) → (outline.told (Ok f) ≡ outline.outline_of (read (take r.shape.lands r.ws)) → o ≡ map_token (read (take r.shape.lands r.ws)) i) →
+  pub map_stands : (o : Option Shown) → (outline.told (Ok f) ≡ outline.outline_of (read (take r.shape.lands r.ws)) → o ≡ map_token (read (take r.shape.lands r.ws)) i) →
       path_in (linked (parts_in o)) ≡ L.link_map i
-  map-stands o tells =
+  map_stands o tells =
       ap (λ (x : Option Shown). path_in (linked (parts_in x))) (told map_token o tells) ∙ map_tokened st.problem well i ∙ sym (ap (λ (M : Loaded). M.link_map i) st.takes)
 
   -- what a check of the rule finds names what is there
-  pub rule-named : Tidy r → (e : ℕ) → e < r.given → Named r (rule_effect L (shown r) e i)
-  rule-named tidy e h =
-      let k = rule-links in
-      sides-named r tidy (walk (shown r).held e (L.left i)) (walk (shown r).held e (L.right i)) (walk-comes r tidy (L.left i) e h k.0) (walk-comes r tidy (L.right i) e h k.1)
+  pub rule_named : Tidy r → (e : ℕ) → e < r.given → Named r (rule_effect L (shown r) e i)
+  rule_named tidy e h =
+      let k = rule_links in
+      sides_named r tidy (walk (shown r).held e (L.left i)) (walk (shown r).held e (L.right i)) (walk_comes r tidy (L.left i) e h k.0) (walk_comes r tidy (L.right i) e h k.1)
 
 -- a call leaves the problem standing
 pub same_stands : (L : Loaded) (a b : Raw) (f : Found) → Same a b → Stands L a f → Stands L b f

@@ -5,7 +5,7 @@ use Rattle.std.proofs.lemmas.Bool.Decides.{nat_tests, eqb_tells}
 use Rattle.machine.specs.State.{Slot, cell, landing, State, same}
 use Rattle.machine.specs.Sweeping.{rank, pick, renamed, swept}
 use Rattle.machine.proofs.Ranks.{rank_small}
-use Rattle.machine.proofs.Sweep.{pick-rank}
+use Rattle.machine.proofs.Sweep.{pick_rank}
 use Rattle.rows.specs.Layout.{Shape, count, inside}
 use Rattle.rows.specs.Sweeps.{renames, in_row, in_rows, in_kind, in_kinds, at_entry, placed, moves, packs, packed}
 use Rattle.rows.proofs.Shown.{same_state}
@@ -16,9 +16,9 @@ module _ (f : ℕ → ℕ) where
   unfolding rank
   rank_none = refl
 
-  pub rank-more : (e : ℕ) → rank f (e + 1) ≡ cond (eqb (f e) e) (rank f e + 1) (rank f e)
+  pub rank_more : (e : ℕ) → rank f (e + 1) ≡ cond (eqb (f e) e) (rank f e + 1) (rank f e)
   unfolding rank
-  rank-more e = rw (add-one e, add-one (rank f e)) refl
+  rank_more e = rw (add-one e, add-one (rank f e)) refl
 
 -- a test is true of what passes one of two others, and nothing passes both
 abbrev pub Adds : Bool → Bool → Bool → Type 0
@@ -67,12 +67,12 @@ join f o false true h = refl
 join f o false false h = refl
 
 module _ (s : State) where
-  pub renames-none : (p : Slot → Bool) → ((t : Slot) → p t ≡ false) → s ≡ renames p s
-  renames-none p h = same_state _ _ refl (λ _. refl) (λ _. refl) (λ t. sym (ap (λ (b : Bool). cond b (renamed (rank s.forward) (s.held t)) (s.held t)) (h t))) refl
+  pub renames_none : (p : Slot → Bool) → ((t : Slot) → p t ≡ false) → s ≡ renames p s
+  renames_none p h = same_state _ _ refl (λ _. refl) (λ _. refl) (λ t. sym (ap (λ (b : Bool). cond b (renamed (rank s.forward) (s.held t)) (s.held t)) (h t))) refl
 
   -- one part, and then another
-  pub renames-more : (p q r : Slot → Bool) → ((t : Slot) → Adds (p t) (q t) (r t)) → renames q (renames p s) ≡ renames r s
-  renames-more p q r h = same_state _ _ refl (λ _. refl) (λ _. refl)
+  pub renames_more : (p q r : Slot → Bool) → ((t : Slot) → Adds (p t) (q t) (r t)) → renames q (renames p s) ≡ renames r s
+  renames_more p q r h = same_state _ _ refl (λ _. refl) (λ _. refl)
       (λ t. join (rank s.forward) (s.held t) (p t) (q t) (h t).0 ∙ ap (λ (b : Bool). cond b (renamed (rank s.forward) (s.held t)) (s.held t)) (sym (h t).1)) refl
 
 at_own : (t : Slot) → t ≡ at_entry (λ x. x) t
@@ -87,36 +87,36 @@ module _ (s : State) where
   placed_same : (h k f g : ℕ → ℕ) → ((x : ℕ) → h x ≡ k x) → ((x : ℕ) → f x ≡ g x) → placed h f s ≡ placed k g s
   placed_same h k f g p q = ap (λ (z : ℕ → ℕ). placed z f s) (fun_ext p) ∙ ap (λ (z : ℕ → ℕ). placed k z s) (fun_ext q)
 
-  placed-own : s ≡ placed (λ x. x) s.forward s
-  placed-own = same_state _ _ refl (λ _. refl) (λ _. refl) (λ t. ap s.held (at_own t)) refl
+  placed_own : s ≡ placed (λ x. x) s.forward s
+  placed_own = same_state _ _ refl (λ _. refl) (λ _. refl) (λ t. ap s.held (at_own t)) refl
 
-  placed-twice : (h k f g : ℕ → ℕ) → placed k g (placed h f s) ≡ placed (λ x. h (k x)) g s
-  placed-twice h k f g = same_state _ _ refl (λ _. refl) (λ _. refl) (λ t. ap s.held (at_twice h k t)) refl
+  placed_twice : (h k f g : ℕ → ℕ) → placed k g (placed h f s) ≡ placed (λ x. h (k x)) g s
+  placed_twice h k f g = same_state _ _ refl (λ _. refl) (λ _. refl) (λ t. ap s.held (at_twice h k t)) refl
 
   pub packed_none : s ≡ packed 0 s
-  packed_none = let z = rank_none s.forward in placed-own ∙ placed_same _ _ _ _ (λ x. grind (arith, nat_tests)) (λ x. grind (arith, nat_tests))
+  packed_none = let z = rank_none s.forward in placed_own ∙ placed_same _ _ _ _ (λ x. grind (arith, nat_tests)) (λ x. grind (arith, nat_tests))
 
-  packed-live : (e : ℕ) → e < s.given → s.forward e ≡ e → rank s.forward (e + 1) ≡ rank s.forward e + 1 → moves e (rank s.forward e) (packed e s) ≡ packed (e + 1) s
-  packed-live e he live m =
+  packed_live : (e : ℕ) → e < s.given → s.forward e ≡ e → rank s.forward (e + 1) ≡ rank s.forward e + 1 → moves e (rank s.forward e) (packed e s) ≡ packed (e + 1) s
+  packed_live e he live m =
       let h = rank_small s.forward e in
-      let p = pick-rank s.forward s.given e live he in
-      placed-twice _ _ (packed e s).forward _ ∙ placed_same _ _ _ _
+      let p = pick_rank s.forward s.given e live he in
+      placed_twice _ _ (packed e s).forward _ ∙ placed_same _ _ _ _
       (λ x. elim (eqb_tells x (rank s.forward e)) [ inl a ↦ rw (a.0, m, a.1, p) (grind (arith, nat_tests)) | inr a ↦ rw (a.0, m) (grind (arith, nat_tests)) ])
       (λ x. elim (eqb_tells x (rank s.forward e)) [ inl a ↦ rw (a.0, m) (grind (arith, nat_tests)) | inr a ↦ rw (a.0, m) (grind (arith, nat_tests)) ])
 
   -- the forward of the next one is as it was
-  packed-forward : (e : ℕ) → (packed e s).forward e ≡ s.forward e
-  packed-forward e = let h = rank_small s.forward e in grind (arith, nat_tests)
+  packed_forward : (e : ℕ) → (packed e s).forward e ≡ s.forward e
+  packed_forward e = let h = rank_small s.forward e in grind (arith, nat_tests)
 
   -- one entry more
   pub packed_more : (e k : ℕ) → k ≡ rank s.forward e → e < s.given →
       (cond (eqb ((packed e s).forward e) e) (k + 1) k ≡ rank s.forward (e + 1)) × (packs e k (packed e s) ≡ packed (e + 1) s)
   packed_more e k hk he =
-      let m = rank-more s.forward e in
-      let f = packed-forward e in
+      let m = rank_more s.forward e in
+      let f = packed_forward e in
       elim (eqb_tells (s.forward e) e) [
         | inl a ↦ (let n : rank s.forward (e + 1) ≡ rank s.forward e + 1 = m ∙ rw a.0 refl in
-            rw (f, a.0) (ap (λ (z : ℕ). z + 1) hk ∙ sym n, ap (λ (z : ℕ). moves e z (packed e s)) hk ∙ packed-live e he a.1 n))
+            rw (f, a.0) (ap (λ (z : ℕ). z + 1) hk ∙ sym n, ap (λ (z : ℕ). moves e z (packed e s)) hk ∙ packed_live e he a.1 n))
         | inr a ↦ (let n : rank s.forward (e + 1) ≡ rank s.forward e = m ∙ rw a.0 refl in
             rw (f, a.0) (hk ∙ sym n, rw n refl))
       ]

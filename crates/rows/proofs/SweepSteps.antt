@@ -10,11 +10,11 @@ use Rattle.machine.proofs.Ranks.{rank_small}
 use Rattle.machine.proofs.Sweep.{renamed_held}
 use Rattle.rows.specs.Layout.{Raw, Copied, Within, spot, place, word, shown, kind_of, forward_of}
 use Rattle.rows.specs.Sweeps.{renames, Still, Goes, Ranked}
-use Rattle.rows.proofs.Places.{place_fits, word_set, word-column, copied-low, spot-apart, spot-copied}
-use Rattle.rows.proofs.Shown.{with, same_state, held_kept, shown-hold, decode_more}
+use Rattle.rows.proofs.Places.{place_fits, word_set, word_column, copied_low, spot_apart, spot_copied}
+use Rattle.rows.proofs.Shown.{with, same_state, held_kept, shown_hold, decode_more}
 use Rattle.rows.proofs.Keeps.{fits_with, same_then}
 use Rattle.rows.proofs.Bridge.{none_waiting}
-use Rattle.rows.proofs.SweepStates.{rank-more}
+use Rattle.rows.proofs.SweepStates.{rank_more}
 
 -- one step after another
 pub goes_none : (a : Raw) (f : State → State) → Still a → shown a ≡ f (shown a) → Goes a f a
@@ -44,26 +44,26 @@ module _ (r : Raw) (s : Still r) (e k : ℕ) (he : e < r.given) where
   abbrev numbered : List ℕ
   numbered = set r.ws (place r.shape.base r.shape.links e 2) k
 
-  shown-numbered : shown (with r numbered r.given r.waits) ≡ shown r
+  shown_numbered : shown (with r numbered r.given r.waits) ≡ shown r
   unfolding kind_of forward_of
-  shown-numbered =
-      let column = λ (x y : ℕ). word-column r.ws r.shape.base r.shape.links e 2 k x y (omega arith) in
+  shown_numbered =
+      let column = λ (x y : ℕ). word_column r.ws r.shape.base r.shape.links e 2 k x y (omega arith) in
       same_state _ _ refl
       (λ x. ap (λ n. cond (ltb x r.given) n 0) (column x 0 (omega arith) (λ q. omega arith)))
       (λ x. ap (λ n. cond (ltb x r.given) n x) (column x 1 (omega arith) (λ q. omega arith)))
-      (λ t. held_kept r numbered r.waits t (λ w. get_or-set_other r.ws (place r.shape.base r.shape.links e 2) _ k 0 (spot-apart r s.fits t w e 2 (omega arith))))
+      (λ t. held_kept r numbered r.waits t (λ w. get_or-set_other r.ws (place r.shape.base r.shape.links e 2) _ k 0 (spot_apart r s.fits t w e 2 (omega arith))))
       (none_waiting (with r numbered r.given r.waits) s.quiet ∙ sym (none_waiting r s.quiet))
 
   goes_number : (at : ℕ) → at ≡ place r.shape.base r.shape.links e 2 → Goes r (λ s. s) (with r (set r.ws at k) r.given r.waits)
   goes_number at p = rw p (goes_by r numbered (λ s. s) s (length-set r.ws _ k)
-      (λ i c. get_or-set_other r.ws (place r.shape.base r.shape.links e 2) i k 0 (λ q. let l = copied-low r s.fits i c in omega arith))
-      shown-numbered s.given)
+      (λ i c. get_or-set_other r.ws (place r.shape.base r.shape.links e 2) i k 0 (λ q. let l = copied_low r s.fits i c in omega arith))
+      shown_numbered s.given)
 
-  ranked-number : (at : ℕ) → at ≡ place r.shape.base r.shape.links e 2 → k ≡ rank (shown r).forward e → Ranked r e → Ranked (with r (set r.ws at k) r.given r.waits) (e + 1)
-  ranked-number at p hk old = rw p (λ x hx.
+  ranked_number : (at : ℕ) → at ≡ place r.shape.base r.shape.links e 2 → k ≡ rank (shown r).forward e → Ranked r e → Ranked (with r (set r.ws at k) r.given r.waits) (e + 1)
+  ranked_number at p hk old = rw p (λ x hx.
       let h = place_fits r.shape.base r.shape.links r.shape.capacity (length r.ws) e 2 s.fits.room (omega (arith, s.fits.few)) (omega arith) in
       let w = word_set r.ws r.shape.base r.shape.links e 2 k x 2 h (omega arith) (omega arith) in
-      let t = ap (λ (t : State). rank t.forward x) (sym shown-numbered) in
+      let t = ap (λ (t : State). rank t.forward x) (sym shown_numbered) in
       elim (eqb_tells x e) [
         | inl a ↦ (let z : word numbered r.shape.base r.shape.links x 2 ≡ k = w ∙ rw a.0 refl in z ∙ hk ∙ ap (rank (shown r).forward) (sym a.1) ∙ t)
         | inr a ↦ (let z : word numbered r.shape.base r.shape.links x 2 ≡ word r.ws r.shape.base r.shape.links x 2 = w ∙ rw a.0 refl in
@@ -72,7 +72,7 @@ module _ (r : Raw) (s : Still r) (e k : ℕ) (he : e < r.given) where
 
   pub numbers : (at : ℕ) → at ≡ place r.shape.base r.shape.links e 2 → k ≡ rank (shown r).forward e → Ranked r e →
       Goes r (λ s. s) (with r (set r.ws at k) r.given r.waits) × Ranked (with r (set r.ws at k) r.given r.waits) (e + 1)
-  numbers at p hk old = (goes_number at p, ranked-number at p hk old)
+  numbers at p hk old = (goes_number at p, ranked_number at p hk old)
 
 pub rank_room : (r : Raw) → Still r → (e k : ℕ) → e < r.given → k ≡ rank (shown r).forward e → k < 65536
 rank_room r s e k he hk = let h = rank_small (shown r).forward e in omega (arith, s.fits.few, s.fits.small)
@@ -94,44 +94,44 @@ renames_one s t h here others = same_state _ _ refl (λ _. refl) (λ _. refl)
 
 -- what a slot holds is renamed by the number in the slot of that entry
 module _ (r : Raw) (s : Still r) (ranked : Ranked r r.given) (t : Slot) (in-t : Within r.shape r.given t) where
-  pub new-number : (w n : ℕ) → (shown r).held t ≡ Some w → n ≡ word r.ws r.shape.base r.shape.links w 2 → (w < r.given) × (n ≡ rank (shown r).forward w) × (n + 1 < 65537)
-  new-number w n e hn =
+  pub new_number : (w n : ℕ) → (shown r).held t ≡ Some w → n ≡ word r.ws r.shape.base r.shape.links w 2 → (w < r.given) × (n ≡ rank (shown r).forward w) × (n + 1 < 65537)
+  new_number w n e hn =
       let h = s.given t w e in
       let k : n ≡ rank (shown r).forward w = hn ∙ ranked w h in
       (h, k, let l = rank_room r s w n h k in omega arith)
 
   module _ (w n at : ℕ) (is : (shown r).held t ≡ Some w) (hn : n ≡ word r.ws r.shape.base r.shape.links w 2) (p : at ≡ spot r.shape t) where
-    shown-renamed : shown (with r (set r.ws at (n + 1)) r.given r.waits) ≡ renames (λ u. same u t) (shown r)
-    shown-renamed = rw p (shown-hold r s.fits t (n + 1) in-t ∙ ap (λ (o : Option ℕ). hold t o (shown r)) (decode_more n)
+    shown_renamed : shown (with r (set r.ws at (n + 1)) r.given r.waits) ≡ renames (λ u. same u t) (shown r)
+    shown_renamed = rw p (shown_hold r s.fits t (n + 1) in-t ∙ ap (λ (o : Option ℕ). hold t o (shown r)) (decode_more n)
         ∙ renames_one (shown r) t (put t (Some n) (shown r).held)
-        (put_here t (Some n) (shown r).held ∙ ap Some (new-number w n is hn).1 ∙ ap (renamed (rank (shown r).forward)) (sym is))
+        (put_here t (Some n) (shown r).held ∙ ap Some (new_number w n is hn).1 ∙ ap (renamed (rank (shown r).forward)) (sym is))
         (put_there t (Some n) (shown r).held))
 
-    goes-rename : Goes r (renames (λ u. same u t)) (with r (set r.ws at (n + 1)) r.given r.waits)
-    goes-rename = goes_by r (set r.ws at (n + 1)) (renames (λ u. same u t)) s (length-set r.ws at (n + 1))
-        (λ i c. get_or-set_other r.ws at i (n + 1) 0 (λ q. spot-copied r s.fits t in-t i c (q ∙ p)))
-        shown-renamed
+    goes_rename : Goes r (renames (λ u. same u t)) (with r (set r.ws at (n + 1)) r.given r.waits)
+    goes_rename = goes_by r (set r.ws at (n + 1)) (renames (λ u. same u t)) s (length-set r.ws at (n + 1))
+        (λ i c. get_or-set_other r.ws at i (n + 1) 0 (λ q. spot_copied r s.fits t in-t i c (q ∙ p)))
+        shown_renamed
         (λ u v e. renamed_given (shown r).forward ((shown r).held u) r.given (s.given u) (same u t) v e)
 
-    ranked-rename : Ranked (with r (set r.ws at (n + 1)) r.given r.waits) r.given
+    ranked_rename : Ranked (with r (set r.ws at (n + 1)) r.given r.waits) r.given
     unfolding word
-    ranked-rename x hx = get_or-set_other r.ws at (place r.shape.base r.shape.links x 2) (n + 1) 0 (λ q. spot-apart r s.fits t in-t x 2 (omega arith) (sym (q ∙ p)))
-        ∙ ranked x hx ∙ ap (λ (z : State). rank z.forward x) (sym shown-renamed)
+    ranked_rename x hx = get_or-set_other r.ws at (place r.shape.base r.shape.links x 2) (n + 1) 0 (λ q. spot_apart r s.fits t in-t x 2 (omega arith) (sym (q ∙ p)))
+        ∙ ranked x hx ∙ ap (λ (z : State). rank z.forward x) (sym shown_renamed)
 
-    pub renames-slot : Goes r (renames (λ u. same u t)) (with r (set r.ws at (n + 1)) r.given r.waits) × Ranked (with r (set r.ws at (n + 1)) r.given r.waits) r.given
-    renames-slot = (goes-rename, ranked-rename)
+    pub renames_slot : Goes r (renames (λ u. same u t)) (with r (set r.ws at (n + 1)) r.given r.waits) × Ranked (with r (set r.ws at (n + 1)) r.given r.waits) r.given
+    renames_slot = (goes_rename, ranked_rename)
 
-  pub goes-empty : (shown r).held t ≡ None → Goes r (renames (λ u. same u t)) r
-  goes-empty e = goes_none r (renames (λ u. same u t)) s
+  pub goes_empty : (shown r).held t ≡ None → Goes r (renames (λ u. same u t)) r
+  goes_empty e = goes_none r (renames (λ u. same u t)) s
       (renames_one (shown r) t (shown r).held (e ∙ ap (renamed (rank (shown r).forward)) (sym e)) (λ u n. refl))
 
 -- the next number, by the test
 pub next_live : (s t : State) → t ≡ s → (e k : ℕ) → true ≡ lives t e → k ≡ rank s.forward e → k + 1 ≡ rank s.forward (e + 1)
 next_live s t q e k h hk =
     let l : lives s e ≡ true = sym (h ∙ ap (λ (z : State). lives z e) q) in
-    let m = rank-more s.forward e in grind (arith, nat_tests)
+    let m = rank_more s.forward e in grind (arith, nat_tests)
 
 pub next_dead : (s t : State) → t ≡ s → (e k : ℕ) → e < s.given → false ≡ lives t e → k ≡ rank s.forward e → k ≡ rank s.forward (e + 1)
 next_dead s t q e k he h hk =
     let l : lives s e ≡ false = sym (h ∙ ap (λ (z : State). lives z e) q) in
-    let m = rank-more s.forward e in grind (arith, nat_tests)
+    let m = rank_more s.forward e in grind (arith, nat_tests)

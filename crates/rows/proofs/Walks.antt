@@ -14,42 +14,42 @@ then_last h l (stopped t n) = far
 
 module _ (h : Slot → Option ℕ) where
   -- the empty path, and one by its first step
-  pub walk-empty : (p : List ℕ) (e : ℕ) → length p < 1 → ended e ≡ walk h e (links p)
+  pub walk_empty : (p : List ℕ) (e : ℕ) → length p < 1 → ended e ≡ walk h e (links p)
   unfolding walk
-  walk-empty [] e n = refl
-  walk-empty (w ∷ ws) e n = absurd (omega arith)
+  walk_empty [] e n = refl
+  walk_empty (w ∷ ws) e n = absurd (omega arith)
 
-  pub first-empty : (p : List ℕ) (e l : ℕ) → 1 ≤ length p → l ≡ fields (get_or p 0 0) → h (cell e l) ≡ None → None ≡ ended_at (walk h e (links p))
+  pub first_empty : (p : List ℕ) (e l : ℕ) → 1 ≤ length p → l ≡ fields (get_or p 0 0) → h (cell e l) ≡ None → None ≡ ended_at (walk h e (links p))
   unfolding walk
-  first-empty [] e l n q o = absurd (omega arith)
-  first-empty (w ∷ ws) e l n q o = rw (← q, o)
+  first_empty [] e l n q o = absurd (omega arith)
+  first_empty (w ∷ ws) e l n q o = rw (← q, o)
 
-  pub first-filled : (p : List ℕ) (e l x : ℕ) → 1 ≤ length p → l ≡ fields (get_or p 0 0) → h (cell e l) ≡ Some x → walk h x (links (take (length p - 1) (drop 1 p))) ≡ walk h e (links p)
+  pub first_filled : (p : List ℕ) (e l x : ℕ) → 1 ≤ length p → l ≡ fields (get_or p 0 0) → h (cell e l) ≡ Some x → walk h x (links (take (length p - 1) (drop 1 p))) ≡ walk h e (links p)
   unfolding walk
-  first-filled [] e l x n q o = absurd (omega arith)
-  first-filled (w ∷ ws) e l x n q o = ap (λ (r : List ℕ). walk h x (links r)) (take_rest (w ∷ ws) 1) ∙ rw (← q, o)
+  first_filled [] e l x n q o = absurd (omega arith)
+  first_filled (w ∷ ws) e l x n q o = ap (λ (r : List ℕ). walk h x (links r)) (take_rest (w ∷ ws) 1) ∙ rw (← q, o)
 
   -- a path of links by its last step
-  pub walk-last : (ls : List ℕ) (l e : ℕ) → side_of (walk h e (ls ++ l ∷ [])) ≡ then_last h l (walk h e ls)
+  pub walk_last : (ls : List ℕ) (l e : ℕ) → side_of (walk h e (ls ++ l ∷ [])) ≡ then_last h l (walk h e ls)
   unfolding walk
-  walk-last [] l e = refl
-  walk-last (m ∷ ls) l e = elim (h (cell e m)) as (λ o. side_of (on o (stopped (cell e m) (length (ls ++ l ∷ []))) (λ w. walk h w (ls ++ l ∷ []))) ≡ then_last h l (on o (stopped (cell e m) (length ls)) (λ w. walk h w ls))) [
+  walk_last [] l e = refl
+  walk_last (m ∷ ls) l e = elim (h (cell e m)) as (λ o. side_of (on o (stopped (cell e m) (length (ls ++ l ∷ []))) (λ w. walk h w (ls ++ l ∷ []))) ≡ then_last h l (on o (stopped (cell e m) (length ls)) (λ w. walk h w ls))) [
     | None ↦ rw (length_push ls l, add-one (length ls))
-    | Some x ↦ walk-last ls l x
+    | Some x ↦ walk_last ls l x
   ]
 
   -- through a slot first
-  pub step-filled : (t : Slot) (x : ℕ) → h t ≡ Some x → ends x ≡ side_of (walk_in h t [])
+  pub step_filled : (t : Slot) (x : ℕ) → h t ≡ Some x → ends x ≡ side_of (walk_in h t [])
   unfolding walk
-  step-filled t x o = rw o
+  step_filled t x o = rw o
 
-  pub in-empty : (t : Slot) (p : List ℕ) → h t ≡ None → eqb (length p) 0 ≡ true → lacks t ≡ side_of (walk_in h t (links p))
-  in-empty t [] o n = rw o
-  in-empty t (w ∷ ws) o n = absurd (grind (arith, nat_tests))
+  pub in_empty : (t : Slot) (p : List ℕ) → h t ≡ None → eqb (length p) 0 ≡ true → lacks t ≡ side_of (walk_in h t (links p))
+  in_empty t [] o n = rw o
+  in_empty t (w ∷ ws) o n = absurd (grind (arith, nat_tests))
 
-  pub in-far : (t : Slot) (p : List ℕ) → h t ≡ None → eqb (length p) 0 ≡ false → far ≡ side_of (walk_in h t (links p))
-  in-far t [] o n = absurd (grind (arith, nat_tests))
-  in-far t (w ∷ ws) o n = rw o
+  pub in_far : (t : Slot) (p : List ℕ) → h t ≡ None → eqb (length p) 0 ≡ false → far ≡ side_of (walk_in h t (links p))
+  in_far t [] o n = absurd (grind (arith, nat_tests))
+  in_far t (w ∷ ws) o n = rw o
 
   -- a path of words by its last step
   parted : (p : List ℕ) (e : ℕ) → 1 ≤ length p → side_of (walk h e (links p)) ≡ then_last h (fields (get_or p (length p - 1) 0)) (walk h e (links (take (length p - 1) p)))
@@ -57,7 +57,7 @@ module _ (h : Slot → Option ℕ) where
       let whole : take (length p - 1 + 1) p ≡ p = take_all (length p - 1 + 1) p (omega arith) in
       ap (λ (q : List ℕ). side_of (walk h e (links q))) (sym whole)
       ∙ ap (λ (ls : List ℕ). side_of (walk h e ls)) (map_more fields p (length p - 1) 0 (omega arith))
-      ∙ walk-last (links (take (length p - 1) p)) (fields (get_or p (length p - 1) 0)) e
+      ∙ walk_last (links (take (length p - 1) p)) (fields (get_or p (length p - 1) 0)) e
 
   early : (l : ℕ) (w : Walked) → None ≡ ended_at w → far ≡ then_last h l w
   early l (ended x) o = absurd (let z : ◌≡◌ {A = ℕ} 0 1 = cc in omega arith)
@@ -67,9 +67,9 @@ module _ (h : Slot → Option ℕ) where
   late l x (ended y) o = let z : x ≡ y = cc in rw z refl
   late l x (stopped t n) o = absurd (let z : ◌≡◌ {A = ℕ} 0 1 = cc in omega arith)
 
-  pub side-far : (p : List ℕ) (e : ℕ) → 1 ≤ length p → None ≡ ended_at (walk h e (links (take (length p - 1) p))) → far ≡ side_of (walk h e (links p))
-  side-far p e n o = early _ _ o ∙ sym (parted p e n)
+  pub side_far : (p : List ℕ) (e : ℕ) → 1 ≤ length p → None ≡ ended_at (walk h e (links (take (length p - 1) p))) → far ≡ side_of (walk h e (links p))
+  side_far p e n o = early _ _ o ∙ sym (parted p e n)
 
-  pub side-near : (p : List ℕ) (e x l : ℕ) → 1 ≤ length p → Some x ≡ ended_at (walk h e (links (take (length p - 1) p))) → l ≡ fields (get_or p (length p - 1) 0) →
+  pub side_near : (p : List ℕ) (e x l : ℕ) → 1 ≤ length p → Some x ≡ ended_at (walk h e (links (take (length p - 1) p))) → l ≡ fields (get_or p (length p - 1) 0) →
       side_of (walk_in h (cell x l) []) ≡ side_of (walk h e (links p))
-  side-near p e x l n o q = rw q (late _ x _ o ∙ sym (parted p e n))
+  side_near p e x l n o q = rw q (late _ x _ o ∙ sym (parted p e n))

@@ -9,17 +9,17 @@ module _ (f : ℕ → Option Op) where
   unfolding lowest
   lowest_none = refl
 
-  pub lowest-more : (i : ℕ) → lowest i f ≡ None → None ≡ f i → lowest (i + 1) f ≡ None
+  pub lowest_more : (i : ℕ) → lowest i f ≡ None → None ≡ f i → lowest (i + 1) f ≡ None
   unfolding lowest
-  lowest-more i none here = rw (add-one, none) (sym here)
+  lowest_more i none here = rw (add-one, none) (sym here)
 
-  pub lowest-over : (i m n : ℕ) → i ≤ m → m ≤ i → m ≡ n → lowest i f ≡ None → None ≡ lowest n f
-  lowest-over i m n a b q none = let e : n ≡ i = omega arith in sym (rw e none)
+  pub lowest_over : (i m n : ℕ) → i ≤ m → m ≤ i → m ≡ n → lowest i f ≡ None → None ≡ lowest n f
+  lowest_over i m n a b q none = let e : n ≡ i = omega arith in sym (rw e none)
 
-  pub lowest-found : (n i : ℕ) → i < n → lowest i f ≡ None → (o : Op) → Some o ≡ f i → Some o ≡ lowest n f
+  pub lowest_found : (n i : ℕ) → i < n → lowest i f ≡ None → (o : Op) → Some o ≡ f i → Some o ≡ lowest n f
   unfolding lowest
-  lowest-found zero i h none o here = absurd (omega arith)
-  lowest-found (suc n) i h none o here = elim (cases_eq i n) [
+  lowest_found zero i h none o here = absurd (omega arith)
+  lowest_found (suc n) i h none o here = elim (cases_eq i n) [
     | inl q ↦ here ∙ sym (ap (λ x. or_else x (f i)) none) ∙ ap (λ j. or_else (lowest j f) (f j)) q
-    | inr q ↦ ap (λ x. or_else x (f n)) (lowest-found n i (omega arith) none o here)
+    | inr q ↦ ap (λ x. or_else x (f n)) (lowest_found n i (omega arith) none o here)
   ]

@@ -24,8 +24,8 @@ answer_short bs short = ap (λ b. cond b (Err (fault_of Limit 8192)) (then (faul
 -- what the reading tells of the answer
 module _ (bs ws after : List ℕ) (n : ℕ) (count : n ≡ min (length bs / 4) (length ws)) (words : after ≡ words_of bs n ++ drop n ws)
     (room : length ws ≡ 8192) (short : length bs ≤ 32768) where
-  pub read-refused : (x : SchemaFault) → giving {B = Unit {0}} tt (read (take n after)) ≡ Err x → answer bs ≡ Err (schema_fault x)
-  read-refused x e =
+  pub read_refused : (x : SchemaFault) → giving {B = Unit {0}} tt (read (take n after)) ≡ Err x → answer bs ≡ Err (schema_fault x)
+  read_refused x e =
       answer_short bs short
       ∙ ap (λ r. then (faulted schema_fault r) unblanked) (ap read (sym (all_read bs ws after n count words room short)) ∙ refused (read (take n after)) x e)
 

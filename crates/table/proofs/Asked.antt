@@ -19,16 +19,16 @@ not_false : (b : Bool) → b ≡ true → b ≡ false → ⊥
 not_false b p q = let z : ◌≡◌ {A = ℕ} 0 1 = cc in omega arith
 
 module _ (leads : List ℕ) (a : Raw) (carries : Carries (taken_shown leads a) a.shape) where
-  pub cell-asked : (loaded : Bool) → loaded ≡ true → (e l from : ℕ) → (l < a.shape.links → (taken_shown leads a).from l ≡ from) →
+  pub cell_asked : (loaded : Bool) → loaded ≡ true → (e l from : ℕ) → (l < a.shape.links → (taken_shown leads a).from l ≡ from) →
       (b : Bool) → b ≡ (lives (shown a) e && (ltb l a.shape.links && eqb ((shown a).kind e) from)) →
       cond b (Ok ((shown a).held (cell e l))) (Err refusal.NotLiving) ≡ cell_told e l (seen loaded leads a)
-  cell-asked true h e l from f b t = ap (λ b. cond b (Ok ((shown a).held (cell e l))) (Err refusal.NotLiving)) (t ∙ leaving (taken_shown leads a) a carries e l from f)
-  cell-asked false h e l from f b t = absurd (not_false false h refl)
+  cell_asked true h e l from f b t = ap (λ b. cond b (Ok ((shown a).held (cell e l))) (Err refusal.NotLiving)) (t ∙ leaving (taken_shown leads a) a carries e l from f)
+  cell_asked false h e l from f b t = absurd (not_false false h refl)
 
-  pub landing-asked : (loaded : Bool) → loaded ≡ true → (k q : ℕ) (b : Bool) → b ≡ inside a.shape a.given (landing k q) →
+  pub landing_asked : (loaded : Bool) → loaded ≡ true → (k q : ℕ) (b : Bool) → b ≡ inside a.shape a.given (landing k q) →
       cond b (Ok ((shown a).held (landing k q))) (Err refusal.NotLiving) ≡ landing_told k q (seen loaded leads a)
-  landing-asked true h k q b t = ap (λ b. cond b (Ok ((shown a).held (landing k q))) (Err refusal.NotLiving)) (t ∙ counted (taken_shown leads a) a carries k q)
-  landing-asked false h k q b t = absurd (not_false false h refl)
+  landing_asked true h k q b t = ap (λ b. cond b (Ok ((shown a).held (landing k q))) (Err refusal.NotLiving)) (t ∙ counted (taken_shown leads a) a carries k q)
+  landing_asked false h k q b t = absurd (not_false false h refl)
 
 -- settling where some wait
 module _ (L : Loaded) (a b : Raw) (some : 0 < a.waits) (after : Becomes a (settled L) b) where
@@ -42,8 +42,8 @@ module _ (L : Loaded) (a b : Raw) (some : 0 < a.waits) (after : Becomes a (settl
     state = after.state ∙ sym (ap (λ w. unless (cond w None (Some refusal.NoneWaits)) (shown a) (settled L (shown a))) wait);
   }
 
-  pub settling-told : Ok b.waits ≡ answered (settle_fault (shown a)) (length (apply L settle (shown a)).waiting)
-  settling-told = ap Ok (sym (waits_are b) ∙ ap (λ s. length s.waiting) settling.state)
+  pub settling_told : Ok b.waits ≡ answered (settle_fault (shown a)) (length (apply L settle (shown a)).waiting)
+  settling_told = ap Ok (sym (waits_are b) ∙ ap (λ s. length s.waiting) settling.state)
       ∙ sym (ap (λ w. answered (cond w None (Some refusal.NoneWaits)) (length (apply L settle (shown a)).waiting)) wait)
 
 -- and where none waits
@@ -70,8 +70,8 @@ module _ (L : Loaded) (a b : Raw) (none : a.waits ≤ 0) (after : Becomes a swep
     state = after.state ∙ sym (ap (λ w. unless (cond w (Some refusal.Waiting) None) (shown a) (swept (shown a))) calm);
   }
 
-  pub sweeping-told : (n : ℕ) → n ≡ a.given - rank (shown a).forward a.given → Ok n ≡ answered (sweep_fault (shown a)) ((shown a).given - rank (shown a).forward (shown a).given)
-  sweeping-told n e = ap Ok e ∙ sym (ap (λ w. answered (cond w (Some refusal.Waiting) None) (a.given - rank (shown a).forward a.given)) calm)
+  pub sweeping_told : (n : ℕ) → n ≡ a.given - rank (shown a).forward a.given → Ok n ≡ answered (sweep_fault (shown a)) ((shown a).given - rank (shown a).forward (shown a).given)
+  sweeping_told n e = ap Ok e ∙ sym (ap (λ w. answered (cond w (Some refusal.Waiting) None) (a.given - rank (shown a).forward a.given)) calm)
 
 -- and where some wait
 pub busy : (leads : List ℕ) (a : Raw) (loaded : Bool) → loaded ≡ true → 0 < a.waits →

@@ -47,32 +47,32 @@ finished_by None e = refl
 
 module _ (t : Table) (loaded : t.loaded ≡ true) where
   -- the answer, by what finish is refused for
-  answer-by : (f : Option Refusal) → finish_fault (took t) (view t.rows) ≡ f → (out : List ℕ) → put_words f (finish_words (took t) (view t.rows)) out ≡ finish_call out (view_of t)
-  answer-by f e out =
+  answer_by : (f : Option Refusal) → finish_fault (took t) (view t.rows) ≡ f → (out : List ℕ) → put_words f (finish_words (took t) (view t.rows)) out ≡ finish_call out (view_of t)
+  answer_by f e out =
       let P : Bool → Type 0 = λ b. put_words f (finish_words (took t) (view t.rows)) out ≡ finish_call out (seen b t.leads (raw t.rows)) in
       subst P (sym loaded) (ap (λ x. put_words x (finish_words (took t) (view t.rows)) out) (sym e))
 
-  pub while-waiting : 0 < t.rows.waits → (out : List ℕ) → ◌≡◌ {A = Result ℕ Refusal × List ℕ} (Err refusal.Waiting, out) (finish_call out (view_of t))
-  while-waiting h out =
-      answer-by (Some refusal.Waiting) (ap (λ b. cond b (Some refusal.Waiting) (unfinished (next (took t) (view t.rows)))) (waits_told (raw t.rows) ∙ lt-ltb 0 t.rows.waits h)) out
+  pub while_waiting : 0 < t.rows.waits → (out : List ℕ) → ◌≡◌ {A = Result ℕ Refusal × List ℕ} (Err refusal.Waiting, out) (finish_call out (view_of t))
+  while_waiting h out =
+      answer_by (Some refusal.Waiting) (ap (λ b. cond b (Some refusal.Waiting) (unfinished (next (took t) (view t.rows)))) (waits_told (raw t.rows) ∙ lt-ltb 0 t.rows.waits h)) out
 
   module _ (quiet : t.rows.waits ≡ 0) (o : Option Task) (is : shown_task o ≡ next (took t) (view t.rows)) where
-    fault-is : finish_fault (took t) (view t.rows) ≡ unfinished (shown_task o)
-    fault-is = ap (λ b. cond b (Some refusal.Waiting) (unfinished (next (took t) (view t.rows)))) (waits_told (raw t.rows) ∙ le-ltb 0 t.rows.waits (omega (arith, quiet))) ∙ ap unfinished (sym is)
+    fault_is : finish_fault (took t) (view t.rows) ≡ unfinished (shown_task o)
+    fault_is = ap (λ b. cond b (Some refusal.Waiting) (unfinished (next (took t) (view t.rows)))) (waits_told (raw t.rows) ∙ le-ltb 0 t.rows.waits (omega (arith, quiet))) ∙ ap unfinished (sym is)
 
     pub incomplete : is_some o ≡ true → (out : List ℕ) → ◌≡◌ {A = Result ℕ Refusal × List ℕ} (Err refusal.Incomplete, out) (finish_call out (view_of t))
-    incomplete some out = answer-by (Some refusal.Incomplete) (fault-is ∙ unfinished_by o some) out
+    incomplete some out = answer_by (Some refusal.Incomplete) (fault_is ∙ unfinished_by o some) out
 
     module _ (none : is_some o ≡ false) where
       pub free : finish_fault (took t) (view t.rows) ≡ None
-      free = fault-is ∙ finished_by o none
+      free = fault_is ∙ finished_by o none
 
-      pub may-count : Countable (raw t.rows)
-      may-count = countable_in (t.reached loaded) (raw t.rows) (tidy t)
+      pub may_count : Countable (raw t.rows)
+      may_count = countable_in (t.reached loaded) (raw t.rows) (tidy t)
           (λ (r : Reached t.leads t.found (raw t.rows)). countable (length (raw t.rows).ws) (origin_of t).0 (origin_of t).1 (took t) r.loads r.made (raw t.rows) r.state free (tidy t))
 
-      pub may-finish : Finishes (took t) (raw t.rows) t.found
-      may-finish = let h = holds t loaded in record {
+      pub may_finish : Finishes (took t) (raw t.rows) t.found
+      may_finish = let h = holds t loaded in record {
         stands = h.stands;
         carries = h.carries;
         ready = ∥∥₁_map (t.reached loaded) (λ (r : Reached t.leads t.found (raw t.rows)).
@@ -81,7 +81,7 @@ module _ (t : Table) (loaded : t.loaded ≡ true) where
 
       module _ (r : Result ℕ Refusal) (out after : List ℕ) (put : ◌≡◌ {A = Result ℕ Refusal × List ℕ} (r, after) (put_words None (finish_words (took t) (view t.rows)) out)) where
         pub accepted : ◌≡◌ {A = Result ℕ Refusal × List ℕ} (r, after) (finish_call out (view_of t))
-        accepted = put ∙ answer-by None free out
+        accepted = put ∙ answer_by None free out
 
         pub back : IsReadBack t r after
         back n e = ∥∥₁_map (t.reached loaded) (λ (x : Reached t.leads t.found (raw t.rows)).

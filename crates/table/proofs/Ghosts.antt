@@ -9,7 +9,7 @@ use Rattle.rows.specs.View.{raw, view}
 use Rattle.table.specs.Reached.{Reached}
 use Rattle.rows.specs.declared.Rows.{Rows}
 use Rattle.table.specs.declared.table.Table.{Table}
-use Rattle.rows.proofs.Bridge.{tidy-start}
+use Rattle.rows.proofs.Bridge.{tidy_start}
 
 abbrev pub Ghosts : Rows → Found → List ℕ → Bool → Type 0
 Ghosts rows found leads loaded =
@@ -57,4 +57,4 @@ tidy_open ws counts starts =
       stacked = λ k h. absurd (omega (arith, h));
       total = refl;
     } in
-    tidy-start r f refl refl (λ i h. absurd (omega (arith, h))) refl
+    tidy_start r f refl refl (λ i h. absurd (omega (arith, h))) refl

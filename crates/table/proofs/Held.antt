@@ -49,10 +49,10 @@ module _ (leads : List ℕ) (found : Found) (a : Raw) (reached : ∥ Reached lea
   }
 
   -- the machine loads its copies
-  loaded-as : (x : Result Loaded LoadFault) → load (length a.ws) (problem_words a) (copy leads a) ≡ x → load (length a.ws) (problem_words a) (copy leads a) ≡ Ok (taken_shown leads a)
+  loaded_as : (x : Result Loaded LoadFault) → load (length a.ws) (problem_words a) (copy leads a) ≡ x → load (length a.ws) (problem_words a) (copy leads a) ≡ Ok (taken_shown leads a)
   unfolding problem_in
-  loaded-as (Err f) e = absurd (∥∥₁_elim reached ⊥_prop (λ r. let y = r.loads in let z : ◌≡◌ {A = ℕ} 0 1 = cc in omega arith))
-  loaded-as (Ok K) e =
+  loaded_as (Err f) e = absurd (∥∥₁_elim reached ⊥_prop (λ r. let y = r.loads in let z : ◌≡◌ {A = ℕ} 0 1 = cc in omega arith))
+  loaded_as (Ok K) e =
       let l = loads (length a.ws) (problem_words a) (copy leads a) K e in
       let p : problem_of a ≡ l.problem = ap or_no_problem l.reads in
       let c : capacity_of (length a.ws) (problem_words a) l.problem (copy leads a) ≡ a.shape.capacity =
@@ -60,7 +60,7 @@ module _ (leads : List ℕ) (found : Found) (a : Raw) (reached : ∥ Reached lea
       e ∙ ap Ok l.takes ∙ (λ j. Ok (taken (sym p j) (copy leads a) (c j)))
 
   loaded : load (length a.ws) (problem_words a) (copy leads a) ≡ Ok (taken_shown leads a)
-  loaded = loaded-as _ refl
+  loaded = loaded_as _ refl
 
   reads : read (problem_words a) ≡ Ok (problem_of a)
   unfolding problem_in
@@ -81,12 +81,12 @@ module _ (leads : List ℕ) (found : Found) (a : Raw) (reached : ∥ Reached lea
     within (inl x) = omega (arith, x, fits.below, fits.room)
     within (inr x) = omega (arith, x.1, fits.room)
 
-    leads-in : get_or leads i 0 + q < length a.ws
-    leads-in = ∥∥₁_elim reached le_prop (λ r. within (r.placed i q h k))
+    leads_in : get_or leads i 0 + q < length a.ws
+    leads_in = ∥∥₁_elim reached le_prop (λ r. within (r.placed i q h k))
 
-    leads-to : lead (copy leads a) i q ≡ get_or a.ws (get_or leads i 0 + q) 0
+    leads_to : lead (copy leads a) i q ≡ get_or a.ws (get_or leads i 0 + q) 0
     unfolding lead_copied
-    leads-to =
+    leads_to =
         let e = lt-ltb i (length (problem_of a).source_links) h in
         let d = lt-ltb q (leaving (problem_of a) (count_copied a) i) k in
         rw (e, d) refl
@@ -96,7 +96,7 @@ module _ (leads : List ℕ) (found : Found) (a : Raw) (reached : ∥ Reached lea
     stands = stands;
     carries = carries;
     accepted = accepted (length a.ws) (problem_words a) (copy leads a) (taken_shown leads a) loaded;
-    led = λ i q h k. (leads-in fits i q h k, leads-to fits i q h k);
+    led = λ i q h k. (leads_in fits i q h k, leads_to fits i q h k);
   }
 
   -- calls led to its state
@@ -104,8 +104,8 @@ module _ (leads : List ℕ) (found : Found) (a : Raw) (reached : ∥ Reached lea
   sound r = subst (Sound (taken_shown leads a)) (sym r.state)
       (calls_good (taken_shown leads a) (accepted (length a.ws) (problem_words a) (copy leads a) (taken_shown leads a) loaded) r.made start (start_good (taken_shown leads a))).sound
 
-  pub first-known : 0 < a.waits → get_or (shown a).waiting 0 0 < a.given
-  first-known h = ∥∥₁_elim reached le_prop (λ r. first_given (taken_shown leads a) a (sound r) h)
+  pub first_known : 0 < a.waits → get_or (shown a).waiting 0 0 < a.given
+  first_known h = ∥∥₁_elim reached le_prop (λ r. first_given (taken_shown leads a) a (sound r) h)
 
-  pub held-live : a.waits ≡ 0 → HeldLive (shown a)
-  held-live quiet t w e = ∥∥₁_elim reached (ℕ_set _ _) (λ r. sound_live (taken_shown leads a) (shown a) (sound r) (none_waiting a quiet) t w e)
+  pub held_live : a.waits ≡ 0 → HeldLive (shown a)
+  held_live quiet t w e = ∥∥₁_elim reached (ℕ_set _ _) (λ r. sound_live (taken_shown leads a) (shown a) (sound r) (none_waiting a quiet) t w e)

@@ -19,9 +19,9 @@ module _ (work : ℕ) (L : Loaded) (s : State) (left done : ℕ) where
   ends_as (does o) e h = absurd (let z : ◌≡◌ {A = ℕ} 0 1 = cc in omega arith)
   ends_as (ends d) e h = cc
 
-  goes-as : (x : Todo) (o : Op) → Ok o ≡ planned x → ◌≡◌ {A = Table × Progress} (after o (holding work L s), going (left - 1) (done + 1)) (stepped work L (carry_out L s left done x))
-  goes-as (does p) o h = let q : o ≡ p = cc in rw (add-one, sub-one, q) refl
-  goes-as (ends d) o h = absurd (let z : ◌≡◌ {A = ℕ} 0 1 = cc in omega arith)
+  goes_as : (x : Todo) (o : Op) → Ok o ≡ planned x → ◌≡◌ {A = Table × Progress} (after o (holding work L s), going (left - 1) (done + 1)) (stepped work L (carry_out L s left done x))
+  goes_as (does p) o h = let q : o ≡ p = cc in rw (add-one, sub-one, q) refl
+  goes_as (ends d) o h = absurd (let z : ◌≡◌ {A = ℕ} 0 1 = cc in omega arith)
 
 module _ (t : code.Table) (loaded : t.loaded ≡ true) (left done : ℕ) where
   abbrev todo : Todo
@@ -37,4 +37,4 @@ module _ (t : code.Table) (loaded : t.loaded ≡ true) (left done : ℕ) where
   unfolding step
   gone o h x e =
       let P : Bool → Type 0 = λ b. ◌≡◌ {A = Table × Progress} (after o (seen b t.leads (raw t.rows)), going (left - 1) (done + 1)) (step_call left done (seen b t.leads (raw t.rows))) in
-      (λ j. (e j, going (left - 1) (done + 1))) ∙ subst P (sym loaded) (goes-as _ (took t) (view t.rows) left done todo o h)
+      (λ j. (e j, going (left - 1) (done + 1))) ∙ subst P (sym loaded) (goes_as _ (took t) (view t.rows) left done todo o h)

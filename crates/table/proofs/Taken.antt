@@ -67,8 +67,8 @@ module _ (old ws : List ℕ) (m : Meaning) (l : Loading) (new : List ℕ) (taken
     state = taken.starts;
   }
 
-  pub taken-ghosts : (r : Rows) → Ghosts (laid r l new) l.found l.leads true
-  taken-ghosts r = ghosts (laid r l new) l.found l.leads true taken.tidy (λ h. ∣ reached ∣₁)
+  pub taken_ghosts : (r : Rows) → Ghosts (laid r l new) l.found l.leads true
+  taken_ghosts r = ghosts (laid r l new) l.found l.leads true taken.tidy (λ h. ∣ reached ∣₁)
 
-  pub taken-promise : PromiseOf true l.leads (fresh l new)
-  taken-promise = promised_by l.leads l.found (fresh l new) true (λ h. ∣ reached ∣₁)
+  pub taken_promise : PromiseOf true l.leads (fresh l new)
+  taken_promise = promised_by l.leads l.found (fresh l new) true (λ h. ∣ reached ∣₁)

@@ -57,54 +57,54 @@ module _ {X : Type 0} (size : X → ℕ) (more : ℕ → ℕ → Bool) (f : ℕ 
       ∙ outlined_more size at x.0 (items size more f (n - (c + 1)) (at + size x.0))
       ∙ ap (λ p. prepended (at ∷ []) (outlined size p (items size more f (n - (c + 1)) p))) (sym x.2)
 
-  stop-at : (m at : ℕ) (y : SchemaFault) → more m at ≡ true → f m at ≡ Err y → items size more f m at ≡ Err y
+  stop_at : (m at : ℕ) (y : SchemaFault) → more m at ≡ true → f m at ≡ Err y → items size more f m at ≡ Err y
   unfolding items
-  stop-at zero at y s e = ap (λ k. cond k (then (f 0 at) (λ l. Ok [])) (Ok [])) s ∙ ap (λ r. then r (λ l. Ok [])) e
-  stop-at (suc m) at y s e =
+  stop_at zero at y s e = ap (λ k. cond k (then (f 0 at) (λ l. Ok [])) (Ok [])) s ∙ ap (λ r. then r (λ l. Ok [])) e
+  stop_at (suc m) at y s e =
       ap (λ k. cond k (then (f (suc m) at) (λ l. then (items size more f m (at + size l)) (λ ls. Ok (l ∷ ls)))) (Ok [])) s
       ∙ ap (λ r. then r (λ l. then (items size more f m (at + size l)) (λ ls. Ok (l ∷ ls)))) e
 
-  pub items-stop : (m at : ℕ) (y : SchemaFault) → more m at ≡ true → behind size at (f m at) ≡ Err y → outlined size at (items size more f m at) ≡ Err y
-  items-stop m at y s b = ap (outlined size at) (stop-at m at y s (behind_err size at y (f m at) b))
+  pub items_stop : (m at : ℕ) (y : SchemaFault) → more m at ≡ true → behind size at (f m at) ≡ Err y → outlined size at (items size more f m at) ≡ Err y
+  items_stop m at y s b = ap (outlined size at) (stop_at m at y s (behind_err size at y (f m at) b))
 
-  pub items-none : (m at : ℕ) → more m at ≡ false → items size more f m at ≡ Ok []
+  pub items_none : (m at : ℕ) → more m at ≡ false → items size more f m at ≡ Ok []
   unfolding items
-  items-none zero at s = ap (λ k. cond k (then (f 0 at) (λ l. Ok [])) (Ok [])) s
-  items-none (suc m) at s = ap (λ k. cond k (then (f (suc m) at) (λ l. then (items size more f m (at + size l)) (λ ls. Ok (l ∷ ls)))) (Ok [])) s
+  items_none zero at s = ap (λ k. cond k (then (f 0 at) (λ l. Ok [])) (Ok [])) s
+  items_none (suc m) at s = ap (λ k. cond k (then (f (suc m) at) (λ l. then (items size more f m (at + size l)) (λ ls. Ok (l ∷ ls)))) (Ok [])) s
 
-  pub items-done : (m at : ℕ) (ps : List ℕ) → more m at ≡ false → prepended ps (outlined size at (items size more f m at)) ≡ Ok (ps, at)
-  items-done m at ps s = ap (λ r. prepended ps (outlined size at r)) (items-none m at s) ∙ simp (append-nil, add-zero)
+  pub items_done : (m at : ℕ) (ps : List ℕ) → more m at ≡ false → prepended ps (outlined size at (items size more f m at)) ≡ Ok (ps, at)
+  items_done m at ps s = ap (λ r. prepended ps (outlined size at r)) (items_none m at s) ∙ simp (append-nil, add-zero)
 
   -- one more place is written behind those that stand
-  pub items-turn : (n c at next : ℕ) (ps : List ℕ) → more (n - c) at ≡ true → c < n → c < length ps → behind size at (f (n - c) at) ≡ Ok next
+  pub items_turn : (n c at next : ℕ) (ps : List ℕ) → more (n - c) at ≡ true → c < n → c < length ps → behind size at (f (n - c) at) ≡ Ok next
       → prepended (take (c + 1) (set ps c at)) (outlined size next (items size more f (n - (c + 1)) next)) ≡ prepended (take c ps) (outlined size at (items size more f (n - c) at))
-  items-turn n c at next ps s h l b =
+  items_turn n c at next ps s h l b =
       ap (λ qs. prepended qs (outlined size next (items size more f (n - (c + 1)) next))) (take_more_set ps c at l)
       ∙ prepended_twice (take c ps) (at ∷ []) (outlined size next (items size more f (n - (c + 1)) next))
       ∙ ap (prepended (take c ps)) (sym (items_more n c at next s h b))
 
-  pub items-zero : (at : ℕ) (xs : List X) → items size more f zero at ≡ Ok xs → xs ≡ []
+  pub items_zero : (at : ℕ) (xs : List X) → items size more f zero at ≡ Ok xs → xs ≡ []
   unfolding items
-  items-zero at xs e = items_empty (more 0 at) (f 0 at) xs e
+  items_zero at xs e = items_empty (more 0 at) (f 0 at) xs e
 
-  pub items-split : (m at : ℕ) (l : X) (ls : List X) → items size more f (suc m) at ≡ Ok (l ∷ ls)
+  pub items_split : (m at : ℕ) (l : X) (ls : List X) → items size more f (suc m) at ≡ Ok (l ∷ ls)
       → (more (suc m) at ≡ true) × (f (suc m) at ≡ Ok l) × (items size more f m (at + size l) ≡ Ok ls)
   unfolding items
-  items-split m at l ls e = items_parts (more (suc m) at) (f (suc m) at) (λ l. items size more f m (at + size l)) l ls e
+  items_split m at l ls e = items_parts (more (suc m) at) (f (suc m) at) (λ l. items size more f m (at + size l)) l ls e
 
   -- each row was read at its place
   pub items_at : (m at k : ℕ) (xs : List X) (d : X) → items size more f m at ≡ Ok xs → k < length xs → f (m - k) (get_or (places size at xs) k 0) ≡ Ok (get_or xs k d)
-  items_at zero at k xs d e h = absurd (let z = ap length (items-zero at xs e) in omega arith)
+  items_at zero at k xs d e h = absurd (let z = ap length (items_zero at xs e) in omega arith)
   items_at (suc m) at k [] d e h = absurd (omega arith)
-  items_at (suc m) at zero (l ∷ ls) d e h = let q : suc m - 0 ≡ suc m = omega arith in ap (λ j. f j at) q ∙ (items-split m at l ls e).1
+  items_at (suc m) at zero (l ∷ ls) d e h = let q : suc m - 0 ≡ suc m = omega arith in ap (λ j. f j at) q ∙ (items_split m at l ls e).1
   items_at (suc m) at (suc k) (l ∷ ls) d e h =
       let q : suc m - suc k ≡ m - k = omega arith in
-      ap (λ j. f j (get_or (places size (at + size l) ls) k 0)) q ∙ items_at m (at + size l) k ls d (items-split m at l ls e).2 (omega arith)
+      ap (λ j. f j (get_or (places size (at + size l) ls) k 0)) q ∙ items_at m (at + size l) k ls d (items_split m at l ls e).2 (omega arith)
 
-  pub items-length : (m at : ℕ) (xs : List X) → items size more f m at ≡ Ok xs → length xs ≤ m
-  items-length zero at xs e = let z = ap length (items-zero at xs e) in omega arith
-  items-length (suc m) at [] e = omega arith
-  items-length (suc m) at (l ∷ ls) e = let h = items-length m (at + size l) ls (items-split m at l ls e).2 in omega arith
+  pub items_length : (m at : ℕ) (xs : List X) → items size more f m at ≡ Ok xs → length xs ≤ m
+  items_length zero at xs e = let z = ap length (items_zero at xs e) in omega arith
+  items_length (suc m) at [] e = omega arith
+  items_length (suc m) at (l ∷ ls) e = let h = items_length m (at + size l) ls (items_split m at l ls e).2 in omega arith
 
 -- how many, where no places are kept
 pub plus : {E : Type 0} → ℕ → Result ℕ E → Result ℕ E
@@ -136,13 +136,13 @@ module _ {X : Type 0} (size : X → ℕ) (more : ℕ → ℕ → Bool) (f : ℕ 
       ∙ ap (λ r. plus c (sized (then r (λ l. then (items size more f (n - (c + 1)) (at + size l)) (λ ls. Ok (l ∷ ls)))))) x.1
       ∙ plus_more c x.0 (items size more f (n - (c + 1)) (at + size x.0)))
 
-  pub count-stop : (m c at : ℕ) (y : SchemaFault) → more m at ≡ true → behind size at (f m at) ≡ Err y → plus c (sized (items size more f m at)) ≡ Err y
+  pub count_stop : (m c at : ℕ) (y : SchemaFault) → more m at ≡ true → behind size at (f m at) ≡ Err y → plus c (sized (items size more f m at)) ≡ Err y
   unfolding plus
-  count-stop m c at y s b = ap (λ r. plus c (sized r)) (stop-at size more f m at y s (behind_err size at y (f m at) b))
+  count_stop m c at y s b = ap (λ r. plus c (sized r)) (stop_at size more f m at y s (behind_err size at y (f m at) b))
 
-  pub count-done : (m c at : ℕ) → more m at ≡ false → plus c (sized (items size more f m at)) ≡ Ok c
+  pub count_done : (m c at : ℕ) → more m at ≡ false → plus c (sized (items size more f m at)) ≡ Ok c
   unfolding plus
-  count-done m c at s = ap (λ r. plus c (sized r)) (items-none size more f m at s) ∙ ap Ok (add-zero c)
+  count_done m c at s = ap (λ r. plus c (sized r)) (items_none size more f m at s) ∙ ap Ok (add-zero c)
 
 pub prepended_none : (r : Result (List ℕ × ℕ) SchemaFault) → prepended [] r ≡ r
 prepended_none (Ok x) = refl
@@ -153,10 +153,10 @@ ended_more size at l (Ok ls) = ap Ok (sym (add_assoc at (size l) (sizes size ls)
 ended_more size at l (Err e) = refl
 
 module _ {X : Type 0} (size : X → ℕ) (more : ℕ → ℕ → Bool) (f : ℕ → ℕ → Result X SchemaFault) where
-  pub ended-turn : (n c at next : ℕ) → more (n - c) at ≡ true → c < n → behind size at (f (n - c) at) ≡ Ok next
+  pub ended_turn : (n c at next : ℕ) → more (n - c) at ≡ true → c < n → behind size at (f (n - c) at) ≡ Ok next
       → ended size next (items size more f (n - (c + 1)) next) ≡ ended size at (items size more f (n - c) at)
   unfolding items
-  ended-turn n c at next s h b =
+  ended_turn n c at next s h b =
       let x = behind_ok size at next (f (n - c) at) b in
       let m : n - c ≡ suc (n - (c + 1)) = left_one n c h in
       ap (λ p. ended size p (items size more f (n - (c + 1)) p)) x.2
@@ -167,11 +167,11 @@ module _ {X : Type 0} (size : X → ℕ) (more : ℕ → ℕ → Bool) (f : ℕ 
       ∙ ap (λ r. ended size at (then r (λ l. then (items size more f (n - (c + 1)) (at + size l)) (λ ls. Ok (l ∷ ls))))) x.1
       ∙ ended_more size at x.0 (items size more f (n - (c + 1)) (at + size x.0)))
 
-  pub ended-stop : (m at : ℕ) (y : SchemaFault) → more m at ≡ true → behind size at (f m at) ≡ Err y → ended size at (items size more f m at) ≡ Err y
-  ended-stop m at y s b = ap (ended size at) (stop-at size more f m at y s (behind_err size at y (f m at) b))
+  pub ended_stop : (m at : ℕ) (y : SchemaFault) → more m at ≡ true → behind size at (f m at) ≡ Err y → ended size at (items size more f m at) ≡ Err y
+  ended_stop m at y s b = ap (ended size at) (stop_at size more f m at y s (behind_err size at y (f m at) b))
 
-  pub ended-done : (m at : ℕ) → more m at ≡ false → ended size at (items size more f m at) ≡ Ok at
-  ended-done m at s = ap (ended size at) (items-none size more f m at s) ∙ ap Ok (add-zero at)
+  pub ended_done : (m at : ℕ) → more m at ≡ false → ended size at (items size more f m at) ≡ Ok at
+  ended_done m at s = ap (ended size at) (items_none size more f m at s) ∙ ap Ok (add-zero at)
 
 pub more_left : (n k : ℕ) → k < n → ltb 0 (n - k) ≡ true
 more_left n k h = grind (arith, nat_tests)
@@ -190,10 +190,10 @@ module _ {X : Type 0} (size : X → ℕ) (more : ℕ → ℕ → Bool) (f : ℕ 
       let q = y.2 in
       let z : ◌≡◌ {A = ℕ} 0 1 = cc in omega arith
 
-  pub items-full : (m at : ℕ) (xs : List X) → items size more f m at ≡ Ok xs → length xs ≡ m
-  items-full zero at xs e = ap length (items-zero size more f at xs e)
-  items-full (suc m) at [] e = absurd (not_none m at e)
-  items-full (suc m) at (x ∷ xs) e = ap suc (items-full m (at + size x) xs (items-split size more f m at x xs e).2)
+  pub items_full : (m at : ℕ) (xs : List X) → items size more f m at ≡ Ok xs → length xs ≡ m
+  items_full zero at xs e = ap length (items_zero size more f at xs e)
+  items_full (suc m) at [] e = absurd (not_none m at e)
+  items_full (suc m) at (x ∷ xs) e = ap suc (items_full m (at + size x) xs (items_split size more f m at x xs e).2)
 
 pub more_one : (m : ℕ) → ltb 0 (suc m) ≡ true
 more_one m = grind (arith, nat_tests)
@@ -210,18 +210,18 @@ sizes_one (x ∷ xs) = let h = sizes_one xs in omega arith
 
 module _ {X : Type 0} (f : ℕ → Result X SchemaFault) where
   pub run_length : (n at : ℕ) (xs : List X) → run f n at ≡ Ok xs → length xs ≡ n
-  run_length n at xs e = items-full one_word (λ left p. ltb 0 left) (λ left p. f p) (λ m p. more_one m) n at xs e
+  run_length n at xs e = items_full one_word (λ left p. ltb 0 left) (λ left p. f p) (λ m p. more_one m) n at xs e
 
   pub run_at : (n at k : ℕ) (xs : List X) (d : X) → run f n at ≡ Ok xs → k < n → f (at + k) ≡ Ok (get_or xs k d)
   run_at n at k xs d e h =
       let l = run_length n at xs e in
       ap f (sym (places_one xs at k (omega arith))) ∙ items_at one_word (λ left p. ltb 0 left) (λ left p. f p) n at k xs d e (omega arith)
 
-  pub run-turn : (n k p : ℕ) (x : X) → k < n → f p ≡ Ok x → ended one_word (p + 1) (run f (n - (k + 1)) (p + 1)) ≡ ended one_word p (run f (n - k) p)
-  run-turn n k p x h e = ended-turn one_word (λ left p. ltb 0 left) (λ left p. f p) n k p (p + 1) (more_left n k h) h (ap (behind one_word p) e)
+  pub run_turn : (n k p : ℕ) (x : X) → k < n → f p ≡ Ok x → ended one_word (p + 1) (run f (n - (k + 1)) (p + 1)) ≡ ended one_word p (run f (n - k) p)
+  run_turn n k p x h e = ended_turn one_word (λ left p. ltb 0 left) (λ left p. f p) n k p (p + 1) (more_left n k h) h (ap (behind one_word p) e)
 
-  pub run-stop : (n k p : ℕ) (y : SchemaFault) → k < n → f p ≡ Err y → ended one_word p (run f (n - k) p) ≡ Err y
-  run-stop n k p y h e = ended-stop one_word (λ left p. ltb 0 left) (λ left p. f p) (n - k) p y (more_left n k h) (ap (behind one_word p) e)
+  pub run_stop : (n k p : ℕ) (y : SchemaFault) → k < n → f p ≡ Err y → ended one_word p (run f (n - k) p) ≡ Err y
+  run_stop n k p y h e = ended_stop one_word (λ left p. ltb 0 left) (λ left p. f p) (n - k) p y (more_left n k h) (ap (behind one_word p) e)
 
-  pub run-done : (n k p : ℕ) → n ≤ k → ended one_word p (run f (n - k) p) ≡ Ok p
-  run-done n k p h = ended-done one_word (λ left p. ltb 0 left) (λ left p. f p) (n - k) p (none_left n k h)
+  pub run_done : (n k p : ℕ) → n ≤ k → ended one_word p (run f (n - k) p) ≡ Ok p
+  run_done n k p h = ended_done one_word (λ left p. ltb 0 left) (λ left p. f p) (n - k) p (none_left n k h)

@@ -1,6 +1,6 @@
 use Rattle.machine.specs.Sequence.{sequence}
 use Rattle.rows.specs.View.{raw, view}
-use Rattle.finishing.proofs.AfterNumbering.{still-stands, writes, writing}
+use Rattle.finishing.proofs.AfterNumbering.{still_stands, writes, writing}
 use Rattle.finishing.proofs.finish.Goals as goal
 
 pub write-answer-requires : goal.write-answer-requires
@@ -8,7 +8,7 @@ write-answer-requires c =
     let L = c.requires.1.0 in
     let x = c.requires.1.1 in
     let n = c.number-numbering.ensures.marked L x.carries in
-    ((L, still-stands (raw c.args.rows.now) _ c.args.found.now _ _ L x n), writing (raw c.args.rows.now) _ c.args.found.now _ _ L x n (c.number-numbering.ensures.listed L))
+    ((L, still_stands (raw c.args.rows.now) _ c.args.found.now _ _ L x n), writing (raw c.args.rows.now) _ c.args.found.now _ _ L x n (c.number-numbering.ensures.listed L))
 
 pub restore-requires : goal.restore-requires
 restore-requires c =

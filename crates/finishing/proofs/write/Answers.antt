@@ -4,19 +4,19 @@ use native.Mathlib.Nat.{ℕ_set}
 use native.Mathlib.Bridge.{le_prop}
 use Rattle.std.proofs.Common.{arith}
 use Rattle.finishing.proofs.Known.{fits}
-use Rattle.finishing.proofs.FileParts.{file-refused, file-told}
+use Rattle.finishing.proofs.FileParts.{file_refused, file_told}
 use Rattle.finishing.proofs.write.Goals as goal
 
 pub size-requires : goal.size-requires
 size-requires c = (fits c.requires.1, c.requires.0)
 
 pub returns-then-size-out : goal.returns-then-size-out
-returns-then-size-out c L s x = file-refused L s c.args.out.now (∥∥₁_elim x le_prop (λ w. let e = c.size.ensures c.args.met L s w in omega arith))
+returns-then-size-out c L s x = file_refused L s c.args.out.now (∥∥₁_elim x le_prop (λ w. let e = c.size.ensures c.args.met L s w in omega arith))
 
 pub put-file-requires : goal.put-file-requires
 put-file-requires c = (c.requires.0, c.requires.1, λ L s w. let e = c.size.ensures c.args.met L s w in omega arith)
 
 pub returns : goal.returns
 returns c L s x =
-    file-told L s c.args.out.now _ _ (∥∥₁_elim x le_prop (λ w. let e = c.size.ensures c.args.met L s w in omega arith))
+    file_told L s c.args.out.now _ _ (∥∥₁_elim x le_prop (λ w. let e = c.size.ensures c.args.met L s w in omega arith))
     (∥∥₁_elim x (ℕ_set _ _) (c.put-file.ensures.size L s)) (∥∥₁_elim x (is_set ℕ_set _ _) (c.put-file.ensures.words L s))

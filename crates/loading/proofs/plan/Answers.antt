@@ -1,7 +1,7 @@
 use Rattle.std.proofs.Common.{◌≡◌, ◌+◌, ◌-◌, ◌≤◌, length, refl, ap, ◌∙◌, arith}
 use Rattle.machine.specs.Loading.{sum}
 use Rattle.loading.specs.LoadedWords.{problem_in, leaving}
-use Rattle.loading.proofs.LoadSource.{sourced, targets, refused-shape, refused-large, refused-leads, refused-memory, planned}
+use Rattle.loading.proofs.LoadSource.{sourced, targets, refused_shape, refused_large, refused_leads, refused_memory, planned}
 use Rattle.loading.proofs.plan.Goals as goal
 
 pub other-shape-requires : goal.other-shape-requires
@@ -23,20 +23,20 @@ entries-requires g c = (targets c.args.problem.now c.in-ok-found.found c.in-ok-f
 
 pub returns-then-other-shape : goal.returns-then-other-shape
 returns-then-other-shape g c =
-    refused-shape c.args.problem.now c.in-ok-found.found c.in-ok-found.ensures.told c.args.work (g.R.Register.meaning c.args.source.now) c.if-other-shape.ensures.answer
+    refused_shape c.args.problem.now c.in-ok-found.found c.in-ok-found.ensures.told c.args.work (g.R.Register.meaning c.args.source.now) c.if-other-shape.ensures.answer
 
 pub returns-then-records-gt4095 : goal.returns-then-records-gt4095
 returns-then-records-gt4095 g c =
     let m = g.R.Register.meaning c.args.source.now in
     let n : c.stack-stacked.result.next - length c.args.problem.now ≡ sum m.count c.stack-stacked.result.source.kinds = omega (arith, c.stack-stacked.ensures.behind) in
-    refused-large c.args.problem.now c.in-ok-found.found c.in-ok-found.ensures.told c.args.work m c.if-other-shape.ensures.answer
+    refused_large c.args.problem.now c.in-ok-found.found c.in-ok-found.ensures.told c.args.work m c.if-other-shape.ensures.answer
     (c.stack-stacked.result.next - length c.args.problem.now) (n ∙ ap (sum m.count) c.stack-stacked.ensures.same) c.if-records-gt4095.true
 
 pub returns-in-Some : goal.returns-in-Some
 returns-in-Some g c =
     let m = g.R.Register.meaning c.args.source.now in
     let n : c.stack-stacked.result.next - length c.args.problem.now ≡ sum m.count c.stack-stacked.result.source.kinds = omega (arith, c.stack-stacked.ensures.behind) in
-    refused-leads c.args.problem.now c.in-ok-found.found c.in-ok-found.ensures.told c.args.work m c.if-other-shape.ensures.answer
+    refused_leads c.args.problem.now c.in-ok-found.found c.in-ok-found.ensures.told c.args.work m c.if-other-shape.ensures.answer
     (c.stack-stacked.result.next - length c.args.problem.now) (n ∙ ap (sum m.count) c.stack-stacked.ensures.same) c.if-records-gt4095.false c.in-Some.link c.in-Some.ensures
 
 pub returns-then-base-work : goal.returns-then-base-work
@@ -47,7 +47,7 @@ returns-then-base-work g c =
     let n : c.stack-stacked.result.next - length ws ≡ sum m.count c.stack-stacked.result.source.kinds = omega (arith, c.stack-stacked.ensures.behind) in
     let b : c.place-leads-placed.result.next ≡ length ws + (c.stack-stacked.result.next - length ws) + sum (leaving (problem_in ws) m.count) f.source.links =
     omega (arith, c.stack-stacked.ensures.behind, c.place-leads-placed.ensures.behind) in
-    refused-memory ws f c.in-ok-found.ensures.told c.args.work m c.if-other-shape.ensures.answer
+    refused_memory ws f c.in-ok-found.ensures.told c.args.work m c.if-other-shape.ensures.answer
     (c.stack-stacked.result.next - length ws) (n ∙ ap (sum m.count) c.stack-stacked.ensures.same) c.if-records-gt4095.false c.in-default.ensures c.place-leads-placed.result.next b c.if-base-work.true
 
 pub returns : goal.returns

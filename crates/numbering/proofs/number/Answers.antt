@@ -1,6 +1,6 @@
 use Rattle.std.proofs.Common.{[]}
 use Rattle.rows.specs.View.{raw}
-use Rattle.numbering.proofs.Listing.{numbered_none, numbers-all, lists-all}
+use Rattle.numbering.proofs.Listing.{numbered_none, numbers_all, lists_all}
 use Rattle.numbering.proofs.number.Goals as goal
 
 pub meet-landings-requires : goal.meet-landings-requires
@@ -11,8 +11,8 @@ visit-all-requires c = (raw c.args.rows.now, _, c.meet-landings.ensures (raw c.a
 
 pub returns : goal.returns
 returns c = record {
-  marked = numbers-all (raw c.args.rows.now) (raw c.meet-landings.new.rows) (raw c.visit-all.new.rows) _ c.meet-landings.new.self c.visit-all.new.self
+  marked = numbers_all (raw c.args.rows.now) (raw c.meet-landings.new.rows) (raw c.visit-all.new.rows) _ c.meet-landings.new.self c.visit-all.new.self
       (numbered_none (raw c.args.rows.now) c.requires) c.meet-landings.ensures c.visit-all.ensures;
-  listed = lists-all (raw c.args.rows.now) (raw c.meet-landings.new.rows) (raw c.visit-all.new.rows) _ c.meet-landings.new.self c.visit-all.new.self
+  listed = lists_all (raw c.args.rows.now) (raw c.meet-landings.new.rows) (raw c.visit-all.new.rows) _ c.meet-landings.new.self c.visit-all.new.self
       (numbered_none (raw c.args.rows.now) c.requires) c.meet-landings.ensures c.visit-all.ensures;
 }

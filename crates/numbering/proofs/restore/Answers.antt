@@ -1,6 +1,6 @@
 use Rattle.std.proofs.Common.{arith}
 use Rattle.rows.specs.View.{raw}
-use Rattle.numbering.proofs.Restoring.{restored_none, restored-all}
+use Rattle.numbering.proofs.Restoring.{restored_none, restored_all}
 use Rattle.numbering.proofs.restore.Goals as goal
 
 pub loop-i-init : goal.loop-i-init
@@ -13,4 +13,4 @@ pub loop-i-preserved : goal.loop-i-preserved
 loop-i-preserved c = λ a xs m h. c.restore-one.ensures a xs (omega arith) (c.loop-i.invariant a xs m h)
 
 pub returns : goal.returns
-returns c = λ a xs m h. restored-all a (raw c.loop-i.rows) xs c.loop-i.i (omega arith) (c.loop-i.invariant a xs m h)
+returns c = λ a xs m h. restored_all a (raw c.loop-i.rows) xs c.loop-i.i (omega arith) (c.loop-i.invariant a xs m h)

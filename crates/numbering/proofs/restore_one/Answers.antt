@@ -1,18 +1,18 @@
 use Rattle.std.proofs.Common.{arith}
 use Rattle.rows.specs.View.{raw}
 use Rattle.numbering.proofs.Kept.{fits}
-use Rattle.numbering.proofs.Restoring.{slot-room, entry-room, restored-more}
+use Rattle.numbering.proofs.Restoring.{slot_room, entry_room, restored_more}
 use Rattle.numbering.proofs.restore_one.Goals as goal
 
 pub read-e-requires : goal.read-e-requires
 read-e-requires c =
     let u = c.requires in
-    (fits u.0 u.1 (raw c.args.rows.now) u.2, slot-room u.0 (raw c.args.rows.now) u.1 u.2 c.args.i u.3, omega arith)
+    (fits u.0 u.1 (raw c.args.rows.now) u.2, slot_room u.0 (raw c.args.rows.now) u.1 u.2 c.args.i u.3, omega arith)
 
 pub at-at-requires : goal.at-at-requires
 at-at-requires c =
     let u = c.requires in
-    (fits u.0 u.1 (raw c.args.rows.now) u.2, entry-room u.0 (raw c.args.rows.now) u.1 u.2 c.args.i u.3 c.read-e.result c.read-e.ensures, omega arith)
+    (fits u.0 u.1 (raw c.args.rows.now) u.2, entry_room u.0 (raw c.args.rows.now) u.1 u.2 c.args.i u.3 c.read-e.result c.read-e.ensures, omega arith)
 
 pub returns : goal.returns
-returns c = λ a xs h r. restored-more a (raw c.args.rows.now) xs c.args.i h r c.read-e.result c.read-e.ensures c.at-at.result c.at-at.ensures.is
+returns c = λ a xs h r. restored_more a (raw c.args.rows.now) xs c.args.i h r c.read-e.result c.read-e.ensures c.at-at.result c.at-at.ensures.is

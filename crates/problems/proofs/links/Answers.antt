@@ -1,7 +1,7 @@
 use Rattle.std.proofs.Common.{◌-◌, ◌<◌, sym, ◌∙◌, arith, lit≤}
 use Rattle.words.specs.Items.{one_word}
 use Rattle.std.proofs.lemmas.Result.{err_from_is_err_and}
-use Rattle.words.proofs.Items.{behind_ok, count_turn, count-stop, count-done, plus_none}
+use Rattle.words.proofs.Items.{behind_ok, count_turn, count_stop, count_done, plus_none}
 use Rattle.problems.proofs.Paths.{link_told}
 use Rattle.problems.proofs.links.Goals as goal
 
@@ -12,7 +12,7 @@ pub returns-in-err-at : goal.returns-in-err-at
 returns-in-err-at c =
     let p = err_from_is_err_and c.from-residual.result c.from-residual.ensures.1 in
     let e = sym c.link.ensures ∙ c.in-err-at.was in
-    rw (p.1, p.2) (sym (count-stop _ _ _ _ _ _ _ (sym c.loop-at-test.ensures) e) ∙ c.loop-at.invariant.1)
+    rw (p.1, p.2) (sym (count_stop _ _ _ _ _ _ _ (sym c.loop-at-test.ensures) e) ∙ c.loop-at.invariant.1)
 
 pub loop-at-preserved : goal.loop-at-preserved
 loop-at-preserved c =
@@ -22,4 +22,4 @@ loop-at-preserved c =
     (omega arith, count_turn _ _ _ _ _ _ _ (sym c.loop-at-test.ensures) (omega arith) e ∙ c.loop-at.invariant.1)
 
 pub returns : goal.returns
-returns c = sym (count-done _ _ _ _ _ _ (sym c.loop-at-test.ensures)) ∙ c.loop-at.invariant.1
+returns c = sym (count_done _ _ _ _ _ _ (sym c.loop-at-test.ensures)) ∙ c.loop-at.invariant.1

@@ -1,7 +1,7 @@
 use Rattle.std.proofs.Common.{◌+◌, ◌<◌, ◌≤◌, length, sym, ◌∙◌, arith}
 use Rattle.words.proofs.Single.{word_told}
 use Rattle.problems.specs.Seen.{links_got}
-use Rattle.problems.proofs.Ruling.{path-past, rule-code}
+use Rattle.problems.proofs.Ruling.{path_past, rule_code}
 use Rattle.problems.proofs.rule.Goals as goal
 use Rattle.words.specs.declared.tags.Tag.TheVariants as tag
 
@@ -10,11 +10,11 @@ path-requires-2 c =
     let ws = c.args.words.now in
     let w : c.args.at < length ws = (word_told tag.Rule ws c.args.at c.in-ok-v.v (sym c.word.ensures ∙ c.in-ok-v.was)).inside in
     let h : c.args.at + 1 ≤ length ws = omega arith in
-    (c.requires, path-past c.args.schema.kinds (links_got c.args.schema.kinds ws c.args.schema.place) ws _ _ _ _ h (sym c.in-ok-one.ensures))
+    (c.requires, path_past c.args.schema.kinds (links_got c.args.schema.kinds ws c.args.schema.place) ws _ _ _ _ h (sym c.in-ok-one.ensures))
 
 pub returns : goal.returns
 returns c =
     let ws = c.args.words.now in
-    rule-code c.args.schema.kinds (links_got c.args.schema.kinds ws c.args.schema.place) ws c.args.room c.args.at c.in-ok-v.v c.in-ok-one.one c.in-ok-other.other
+    rule_code c.args.schema.kinds (links_got c.args.schema.kinds ws c.args.schema.place) ws c.args.room c.args.at c.in-ok-v.v c.in-ok-one.one c.in-ok-other.other
     (sym c.word.ensures ∙ c.in-ok-v.was) (omega arith) (omega arith) (omega arith) (omega arith)
     (sym c.in-ok-one.ensures) (sym c.in-ok-other.ensures) c.if-one-other.false

@@ -3,8 +3,8 @@ use Rattle.std.proofs.lemmas.Result.{err_from_is_err_and}
 use Rattle.words.specs.Items.{prepended}
 use Rattle.problems.specs.Problem.{rule_size}
 use Rattle.problems.specs.Seen.{links_got}
-use Rattle.problems.proofs.Ruling.{rule-room}
-use Rattle.words.proofs.Items.{behind_ok, items-turn, items-stop, items-done, prepended_none}
+use Rattle.problems.proofs.Ruling.{rule_room}
+use Rattle.words.proofs.Items.{behind_ok, items_turn, items_stop, items_done, prepended_none}
 use Rattle.problems.proofs.rules.Goals as goal
 
 pub loop-schema-init : goal.loop-schema-init
@@ -14,17 +14,17 @@ pub returns-in-err-next : goal.returns-in-err-next
 returns-in-err-next c =
     let p = err_from_is_err_and c.from-residual.result c.from-residual.ensures.1 in
     let e = sym c.rule.ensures ∙ c.in-err-next.was in
-    rw (p.1, p.2) (record { few = tt; told = ap (prepended (take c.loop-schema.count c.loop-schema.places)) (sym (items-stop _ _ _ _ _ _ (sym c.loop-schema-test.ensures) e)) ∙ c.loop-schema.invariant.2 })
+    rw (p.1, p.2) (record { few = tt; told = ap (prepended (take c.loop-schema.count c.loop-schema.places)) (sym (items_stop _ _ _ _ _ _ (sym c.loop-schema-test.ensures) e)) ∙ c.loop-schema.invariant.2 })
 
 pub loop-schema-preserved : goal.loop-schema-preserved
 loop-schema-preserved c =
     let e = sym c.rule.ensures ∙ c.in-ok-next.was in
     let x = behind_ok rule_size _ _ _ e in
-    let w : 0 < 128 - c.loop-schema.count = rule-room c.args.schema.kinds (links_got c.args.schema.kinds c.args.words.now c.args.schema.place) c.args.words.now (128 - c.loop-schema.count) c.loop-schema.at x.0 x.1 in (
+    let w : 0 < 128 - c.loop-schema.count = rule_room c.args.schema.kinds (links_got c.args.schema.kinds c.args.words.now c.args.schema.place) c.args.words.now (128 - c.loop-schema.count) c.loop-schema.at x.0 x.1 in (
       omega arith,
       simp length-set c.loop-schema.invariant.1,
-      items-turn _ _ _ _ _ _ _ _ (sym c.loop-schema-test.ensures) (omega arith) (omega arith) e ∙ c.loop-schema.invariant.2,
+      items_turn _ _ _ _ _ _ _ _ (sym c.loop-schema-test.ensures) (omega arith) (omega arith) e ∙ c.loop-schema.invariant.2,
     )
 
 pub returns : goal.returns
-returns c = record { few = c.loop-schema.invariant.0; told = sym (items-done _ _ _ _ _ _ (sym c.loop-schema-test.ensures)) ∙ c.loop-schema.invariant.2 }
+returns c = record { few = c.loop-schema.invariant.0; told = sym (items_done _ _ _ _ _ _ (sym c.loop-schema-test.ensures)) ∙ c.loop-schema.invariant.2 }

@@ -2,20 +2,20 @@ use Rattle.std.proofs.Common.{◌≡◌, ◌<◌, length, sym, ap, ◌∙◌, ar
 use Rattle.register_files.proofs.Parts.{count_told}
 use Rattle.std.proofs.lemmas.Result.{err_from_is_err_and}
 use Rattle.words.specs.Words.{worded}
-use Rattle.words.proofs.Items.{run-turn, run-stop, run-done}
+use Rattle.words.proofs.Items.{run_turn, run_stop, run_done}
 use Rattle.register_files.proofs.counts.Goals as goal
 
 pub returns-in-err-word : goal.returns-in-err-word
 returns-in-err-word c =
     let p = err_from_is_err_and c.from-residual.result c.from-residual.ensures.1 in
     let e = ap worded (sym c.word.ensures ∙ c.in-err-word.was) in
-    rw (p.1, p.2) (sym (run-stop _ _ _ _ _ c.loop-k-test.true e) ∙ c.loop-k.invariant.1)
+    rw (p.1, p.2) (sym (run_stop _ _ _ _ _ c.loop-k-test.true e) ∙ c.loop-k.invariant.1)
 
 pub loop-k-preserved : goal.loop-k-preserved
 loop-k-preserved c =
     let e = ap worded (sym c.word.ensures ∙ c.in-ok-word.was) in
     let w : c.loop-k.next < length c.args.words.now = (count_told _ _ _ e).inside in
-    (omega arith, run-turn _ _ _ _ _ c.loop-k-test.true e ∙ c.loop-k.invariant.1)
+    (omega arith, run_turn _ _ _ _ _ c.loop-k-test.true e ∙ c.loop-k.invariant.1)
 
 pub returns : goal.returns
-returns c = sym (run-done _ _ _ _ c.loop-k-test.false) ∙ c.loop-k.invariant.1
+returns c = sym (run_done _ _ _ _ c.loop-k-test.false) ∙ c.loop-k.invariant.1

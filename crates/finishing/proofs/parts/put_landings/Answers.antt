@@ -5,13 +5,13 @@ use Rattle.rows.specs.Layout.{count}
 use Rattle.rows.specs.View.{raw}
 use Rattle.rows.proofs.Places.{sum_more}
 use Rattle.finishing.specs.Records.{appended, landing_part}
-use Rattle.finishing.proofs.Appended.{appended-start, appended-put}
+use Rattle.finishing.proofs.Appended.{appended_start, appended_put}
 use Rattle.finishing.proofs.FileParts.{landings_length}
 use Rattle.finishing.proofs.parts.put_landings.Goals as goal
 
 pub loop-k-init : goal.loop-k-init
 unfolding sum
-loop-k-init c = (omega arith, λ L st. appended-start (λ k. landing_part (raw c.args.rows.now) (L.kind_map k) k) c.args.at c.args.out.now)
+loop-k-init c = (omega arith, λ L st. appended_start (λ k. landing_part (raw c.args.rows.now) (L.kind_map k) k) c.args.at c.args.out.now)
 
 pub put-landing-next-requires : goal.put-landing-next-requires
 put-landing-next-requires c =
@@ -31,7 +31,7 @@ loop-k-preserved c =
       omega arith,
       λ L st.
           let n = landings_length (raw c.args.rows.now) L.kind_map c.loop-k.k in
-          appended-put (λ k. landing_part (raw c.args.rows.now) (L.kind_map k) k) c.args.at c.loop-k.next c.loop-k.k _ _ _ (omega arith) (omega arith) (c.loop-k.invariant.1 L st) (c.put-landing-next.ensures.words L st),
+          appended_put (λ k. landing_part (raw c.args.rows.now) (L.kind_map k) k) c.args.at c.loop-k.next c.loop-k.k _ _ _ (omega arith) (omega arith) (c.loop-k.invariant.1 L st) (c.put-landing-next.ensures.words L st),
     )
 
 pub returns : goal.returns

@@ -1,11 +1,11 @@
 use Rattle.std.proofs.Common.{◌+◌, get_or, sym, ap, ◌∙◌, arith}
 use Rattle.rows.specs.View.{raw}
 use Rattle.finishing.proofs.FileParts.{link_length}
-use Rattle.finishing.proofs.Problem.{ends-small}
+use Rattle.finishing.proofs.Problem.{ends_small}
 use Rattle.finishing.proofs.sizes.link_size.Goals as goal
 
 pub bounds-counts-from : goal.bounds-counts-from
-bounds-counts-from c = (ends-small c.requires.0 c.requires.1 c.link-ends-from.result c.link-ends-from.ensures).0
+bounds-counts-from c = (ends_small c.requires.0 c.requires.1 c.link-ends-from.result c.link-ends-from.ensures).0
 
 pub returns : goal.returns
 returns c = record {

@@ -2,12 +2,12 @@ use Rattle.std.proofs.Common.{◌≡◌, length, sym, ap, ◌∙◌, arith}
 use Rattle.rows.specs.View.{raw}
 use Rattle.finishing.specs.Records.{appended}
 use Rattle.finishing.specs.Written.{link_part}
-use Rattle.finishing.proofs.Appended.{appended-none, appended-length}
+use Rattle.finishing.proofs.Appended.{appended_none, appended_length}
 use Rattle.finishing.proofs.Problem.{few_links}
 use Rattle.finishing.proofs.sizes.links_size.Goals as goal
 
 pub loop-l-init : goal.loop-l-init
-loop-l-init c = (λ met L s w. sym (appended-none (link_part L s)), omega arith)
+loop-l-init c = (λ met L s w. sym (appended_none (link_part L s)), omega arith)
 
 pub overflow-add-total : goal.overflow-add-total
 overflow-add-total c =
@@ -17,7 +17,7 @@ overflow-add-total c =
 pub loop-l-preserved : goal.loop-l-preserved
 loop-l-preserved c = (
   λ met L s w.
-      let n = appended-length (link_part L s) c.loop-l.l in
+      let n = appended_length (link_part L s) c.loop-l.l in
       let i = c.loop-l.invariant.0 met L s w in
       let e = c.link-size-total.ensures.words met L s w in
       omega arith,

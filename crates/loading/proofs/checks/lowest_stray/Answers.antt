@@ -1,6 +1,6 @@
 use Rattle.std.proofs.Common.{◌≡◌, length, sym, refl, ap, ◌∙◌, arith}
 use Rattle.registers.specs.Writing.{lowest}
-use Rattle.registers.proofs.WrittenLists.{lowest-more, lowest-found}
+use Rattle.registers.proofs.WrittenLists.{lowest_more, lowest_found}
 use Rattle.loading.specs.LoadedWords.{problem_in}
 use Rattle.loading.proofs.checks.lowest_stray.Goals as goal
 
@@ -9,10 +9,10 @@ unfolding lowest
 loop-link-init g c = refl
 
 pub loop-link-preserved : goal.loop-link-preserved
-loop-link-preserved g c = lowest-more _ _ c.loop-link.invariant (sym c.if-link-strays.ensures)
+loop-link-preserved g c = lowest_more _ _ c.loop-link.invariant (sym c.if-link-strays.ensures)
 
 pub returns-then-link-strays : goal.returns-then-link-strays
-returns-then-link-strays g c = lowest-found _ c.loop-link.link _ (omega arith) c.loop-link.invariant (sym c.if-link-strays.ensures)
+returns-then-link-strays g c = lowest_found _ c.loop-link.link _ (omega arith) c.loop-link.invariant (sym c.if-link-strays.ensures)
 
 pub returns : goal.returns
 returns g c =

@@ -1,6 +1,6 @@
 use Rattle.std.proofs.Common.{◌≡◌, length, sym, refl, ap, ◌∙◌, arith}
 use Rattle.registers.specs.Writing.{some_below}
-use Rattle.registers.proofs.WrittenLists.{none_more, some-found}
+use Rattle.registers.proofs.WrittenLists.{none_more, some_found}
 use Rattle.loading.specs.LoadedWords.{problem_in}
 use Rattle.loading.proofs.checks.some_other_ends.Goals as goal
 
@@ -12,7 +12,7 @@ pub loop-link-preserved : goal.loop-link-preserved
 loop-link-preserved g c = none_more _ _ c.loop-link.invariant (sym c.if-other-ends.ensures)
 
 pub returns-then-other-ends : goal.returns-then-other-ends
-returns-then-other-ends g c = some-found _ c.loop-link.link _ (omega arith) (sym c.if-other-ends.ensures)
+returns-then-other-ends g c = some_found _ c.loop-link.link _ (omega arith) (sym c.if-other-ends.ensures)
 
 pub returns : goal.returns
 returns g c =

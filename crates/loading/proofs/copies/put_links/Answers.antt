@@ -2,13 +2,13 @@ use Rattle.std.proofs.Common.{arith}
 use Rattle.loading.specs.LoadedWords.{problem_in, leaving}
 use Rattle.rows.proofs.Places.{sum_more}
 use Rattle.loading.proofs.LoadLists.{sum_none, sum_next}
-use Rattle.loading.proofs.LoadCopies.{leads-none, leads-more}
+use Rattle.loading.proofs.LoadCopies.{leads_none, leads_more}
 use Rattle.loading.proofs.copies.put_links.Goals as goal
 
 pub loop-link-init : goal.loop-link-init
 loop-link-init g c =
     let m = g.R.Register.meaning c.args.source.now in
-    (omega (arith, sum_none (leaving (problem_in c.args.problem.now) m.count)), leads-none _ m c.args.at _)
+    (omega (arith, sum_none (leaving (problem_in c.args.problem.now) m.count)), leads_none _ m c.args.at _)
 
 pub put-link-requires : goal.put-link-requires
 put-link-requires g c =
@@ -27,4 +27,4 @@ loop-link-preserved g c =
     let m = g.R.Register.meaning c.args.source.now in
     let p = problem_in c.args.problem.now in
     let s = sum_next (leaving p m.count) c.loop-link.link in
-    (omega arith, leads-more p m c.args.at c.loop-link.next c.loop-link.link _ _ _ _ (omega arith) c.loop-link.invariant.0 c.leaving-n.ensures c.loop-link.invariant.1 c.put-link.ensures)
+    (omega arith, leads_more p m c.args.at c.loop-link.next c.loop-link.link _ _ _ _ (omega arith) c.loop-link.invariant.0 c.leaving-n.ensures c.loop-link.invariant.1 c.put-link.ensures)

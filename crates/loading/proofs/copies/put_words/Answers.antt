@@ -2,14 +2,14 @@ use Rattle.std.proofs.Common.{◌≡◌, length, get_or, refl, ap, ◌∙◌, ar
 use Rattle.registers.specs.Splices.{spliced}
 use Rattle.registers.specs.Writing.{upto}
 use Rattle.registers.proofs.WrittenLists.{upto_same}
-use Rattle.loading.proofs.LoadLists.{put-none, put-more}
+use Rattle.loading.proofs.LoadLists.{put_none, put_more}
 use Rattle.loading.proofs.copies.put_words.Goals as goal
 
 pub loop-i-init : goal.loop-i-init
-loop-i-init c = put-none _ _ _
+loop-i-init c = put_none _ _ _
 
 pub loop-i-preserved : goal.loop-i-preserved
-loop-i-preserved c = put-more _ 0 c.loop-i.i _ _ _ _ (omega arith) (omega arith) (omega arith) refl c.loop-i.invariant
+loop-i-preserved c = put_more _ 0 c.loop-i.i _ _ _ _ (omega arith) (omega arith) (omega arith) refl c.loop-i.invariant
 
 pub returns : goal.returns
 returns c =

@@ -1,5 +1,5 @@
 use Rattle.std.proofs.Common.{refl, arith, length-set}
-use Rattle.loading.proofs.LoadLists.{sum_none, sum_next, none_kept, take-upto}
+use Rattle.loading.proofs.LoadLists.{sum_none, sum_next, none_kept, take_upto}
 use Rattle.loading.proofs.places.stack.Goals as goal
 
 pub loop-kind-init : goal.loop-kind-init
@@ -17,8 +17,8 @@ loop-kind-preserved g c =
     let s = sum_next m.count c.loop-kind.kind in (
       simp length-set i.0,
       simp length-set i.1,
-      take-upto m.count _ _ _ (omega arith) c.count-n.ensures i.2,
-      take-upto _ _ _ _ (omega arith) i.4 i.3,
+      take_upto m.count _ _ _ (omega arith) c.count-n.ensures i.2,
+      take_upto _ _ _ _ (omega arith) i.4 i.3,
       omega arith,
       omega arith,
     )

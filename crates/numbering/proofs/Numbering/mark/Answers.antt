@@ -1,31 +1,31 @@
 use Rattle.std.proofs.Common.{arith, rules}
 use Rattle.rows.specs.View.{raw}
-use Rattle.numbering.proofs.Meeting.{next-held, next-new, numbered_more}
+use Rattle.numbering.proofs.Meeting.{next_held, next_new, numbered_more}
 use Rattle.numbering.proofs.Numbering.mark.Goals as goal
 
 pub kind-kind-requires : goal.kind-kind-requires
-kind-kind-requires c = let h = next-held (raw c.args.rows.now) c.args.self.now c.args.e c.requires in (h.fits, h.below)
+kind-kind-requires c = let h = next_held (raw c.args.rows.now) c.args.self.now c.args.e c.requires in (h.fits, h.below)
 
 pub bounds-self-kind : goal.bounds-self-kind
-bounds-self-kind c = (next-new (raw c.args.rows.now) c.args.self.now c.args.e c.requires c.kind-kind.result c.kind-kind.ensures).kind_small
+bounds-self-kind c = (next_new (raw c.args.rows.now) c.args.self.now c.args.e c.requires c.kind-kind.result c.kind-kind.ensures).kind_small
 
 pub at-slot-requires : goal.at-slot-requires
 at-slot-requires c =
-    let h = next-held (raw c.args.rows.now) c.args.self.now c.args.e c.requires in
-    let n = next-new (raw c.args.rows.now) c.args.self.now c.args.e c.requires c.kind-kind.result c.kind-kind.ensures in
+    let h = next_held (raw c.args.rows.now) c.args.self.now c.args.e c.requires in
+    let n = next_new (raw c.args.rows.now) c.args.self.now c.args.e c.requires c.kind-kind.result c.kind-kind.ensures in
     (h.fits, n.room, omega arith)
 
 pub at-at-requires : goal.at-at-requires
-at-at-requires c = let h = next-held (raw c.args.rows.now) c.args.self.now c.args.e c.requires in (h.fits, h.within, omega arith)
+at-at-requires c = let h = next_held (raw c.args.rows.now) c.args.self.now c.args.e c.requires in (h.fits, h.within, omega arith)
 
 pub overflow-add-rows : goal.overflow-add-rows
-overflow-add-rows c = let n = next-new (raw c.args.rows.now) c.args.self.now c.args.e c.requires c.kind-kind.result c.kind-kind.ensures in search rules
+overflow-add-rows c = let n = next_new (raw c.args.rows.now) c.args.self.now c.args.e c.requires c.kind-kind.result c.kind-kind.ensures in search rules
 
 pub overflow-add-self : goal.overflow-add-self
-overflow-add-self c = let n = next-new (raw c.args.rows.now) c.args.self.now c.args.e c.requires c.kind-kind.result c.kind-kind.ensures in search rules
+overflow-add-self c = let n = next_new (raw c.args.rows.now) c.args.self.now c.args.e c.requires c.kind-kind.result c.kind-kind.ensures in search rules
 
 pub bounds-self-kind-2 : goal.bounds-self-kind-2
-bounds-self-kind-2 c = (next-new (raw c.args.rows.now) c.args.self.now c.args.e c.requires c.kind-kind.result c.kind-kind.ensures).kind_small
+bounds-self-kind-2 c = (next_new (raw c.args.rows.now) c.args.self.now c.args.e c.requires c.kind-kind.result c.kind-kind.ensures).kind_small
 
 pub returns : goal.returns
 returns c = λ a xs m f.

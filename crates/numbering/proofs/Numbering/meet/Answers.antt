@@ -1,11 +1,11 @@
 use Rattle.std.proofs.Common.{sym, ◌∙◌, arith}
 use Rattle.rows.specs.View.{raw, slot}
-use Rattle.numbering.proofs.Meeting.{meets-none, meets-held, meets-met, meets-fresh, meets-new}
+use Rattle.numbering.proofs.Meeting.{meets_none, meets_held, meets_met, meets_fresh, meets_new}
 use Rattle.numbering.proofs.Numbering.meet.Goals as goal
 
 pub read-requires : goal.read-requires
 read-requires c =
-    let h = meets-held c.requires.0 (raw c.args.rows.now) c.requires.1 _ _ c.requires.2 (slot c.args.t) c.in-Some.e (sym c.held.ensures ∙ c.in-Some.is) in
+    let h = meets_held c.requires.0 (raw c.args.rows.now) c.requires.1 _ _ c.requires.2 (slot c.args.t) c.in-Some.e (sym c.held.ensures ∙ c.in-Some.is) in
     (h.fits, h.within, omega arith)
 
 pub mark-requires : goal.mark-requires
@@ -13,18 +13,18 @@ mark-requires c = (
   c.requires.0,
   c.requires.1,
   c.requires.2,
-  meets-fresh c.requires.0 (raw c.args.rows.now) c.requires.1 _ _ c.requires.2 (slot c.args.t) c.in-Some.e (sym c.held.ensures ∙ c.in-Some.is)
+  meets_fresh c.requires.0 (raw c.args.rows.now) c.requires.1 _ _ c.requires.2 (slot c.args.t) c.in-Some.e (sym c.held.ensures ∙ c.in-Some.is)
       (omega (arith, c.if-read-lt-MARK.true, c.read.ensures)),
 )
 
 pub returns-then-read-lt-MARK : goal.returns-then-read-lt-MARK
 returns-then-read-lt-MARK c = λ a xs m.
-    meets-new a (raw c.args.rows.now) xs _ _ m (slot c.args.t) c.in-Some.e (sym c.held.ensures ∙ c.in-Some.is) (omega (arith, c.if-read-lt-MARK.true, c.read.ensures)) _ _ _
+    meets_new a (raw c.args.rows.now) xs _ _ m (slot c.args.t) c.in-Some.e (sym c.held.ensures ∙ c.in-Some.is) (omega (arith, c.if-read-lt-MARK.true, c.read.ensures)) _ _ _
     (c.mark.ensures a xs m)
 
 pub returns-else-read-lt-MARK : goal.returns-else-read-lt-MARK
 returns-else-read-lt-MARK c = λ a xs m.
-    meets-met a (raw c.args.rows.now) xs _ _ m (slot c.args.t) c.in-Some.e (sym c.held.ensures ∙ c.in-Some.is) (omega (arith, c.if-read-lt-MARK.false, c.read.ensures))
+    meets_met a (raw c.args.rows.now) xs _ _ m (slot c.args.t) c.in-Some.e (sym c.held.ensures ∙ c.in-Some.is) (omega (arith, c.if-read-lt-MARK.false, c.read.ensures))
 
 pub returns-in-default : goal.returns-in-default
-returns-in-default c = λ a xs m. meets-none a (raw c.args.rows.now) xs _ _ m (slot c.args.t) (sym c.held.ensures ∙ c.in-default.is)
+returns-in-default c = λ a xs m. meets_none a (raw c.args.rows.now) xs _ _ m (slot c.args.t) (sym c.held.ensures ∙ c.in-default.is)

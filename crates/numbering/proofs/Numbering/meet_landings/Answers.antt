@@ -2,7 +2,7 @@ use Rattle.std.proofs.Common.{ap, arith}
 use Rattle.rows.specs.Layout.{Shape}
 use Rattle.rows.specs.View.{raw}
 use Rattle.numbering.specs.Marked.{of_kinds}
-use Rattle.numbering.proofs.Growing.{grown-shape, still-counting, grows_then, grows-to, kinds_none, kinds_more}
+use Rattle.numbering.proofs.Growing.{grown_shape, still_counting, grows_then, grows_to, kinds_none, kinds_more}
 use Rattle.numbering.proofs.Numbering.meet_landings.Goals as goal
 
 pub loop-k-init : goal.loop-k-init
@@ -10,8 +10,8 @@ loop-k-init c = kinds_none (raw c.args.rows.now) c.args.self.now
 
 pub meet-kind-requires : goal.meet-kind-requires
 meet-kind-requires c =
-    let s = ap (λ (h : Shape). h.kinds) (grown-shape (raw c.args.rows.now) c.args.self.now c.requires (raw c.loop-k.rows) c.loop-k.self _ c.loop-k.invariant) in
-    (still-counting (raw c.args.rows.now) c.args.self.now (raw c.loop-k.rows) c.loop-k.self _ c.loop-k.invariant c.requires, omega arith)
+    let s = ap (λ (h : Shape). h.kinds) (grown_shape (raw c.args.rows.now) c.args.self.now c.requires (raw c.loop-k.rows) c.loop-k.self _ c.loop-k.invariant) in
+    (still_counting (raw c.args.rows.now) c.args.self.now (raw c.loop-k.rows) c.loop-k.self _ c.loop-k.invariant c.requires, omega arith)
 
 pub loop-k-preserved : goal.loop-k-preserved
 loop-k-preserved c =
@@ -20,4 +20,4 @@ loop-k-preserved c =
 
 pub returns : goal.returns
 returns c =
-    grows-to (raw c.args.rows.now) c.args.self.now (raw c.loop-k.rows) c.loop-k.self (λ a k xs. of_kinds a k xs) c.loop-k.k (λ h. h.kinds) (omega arith) c.loop-k.invariant
+    grows_to (raw c.args.rows.now) c.args.self.now (raw c.loop-k.rows) c.loop-k.self (λ a k xs. of_kinds a k xs) c.loop-k.k (λ h. h.kinds) (omega arith) c.loop-k.invariant

@@ -1,12 +1,12 @@
 use Rattle.std.proofs.Common.{arith}
 use Rattle.rows.specs.View.{raw}
-use Rattle.numbering.proofs.Growing.{counting-fits, met-below, visits}
+use Rattle.numbering.proofs.Growing.{counting_fits, met_below, visits}
 use Rattle.numbering.proofs.Numbering.visit.Goals as goal
 
 pub read-e-requires : goal.read-e-requires
 read-e-requires c =
-    let f = counting-fits (raw c.args.rows.now) c.args.self.now c.requires.0 in
-    (f, omega (arith, met-below (raw c.args.rows.now) c.args.self.now c.requires.0 c.args.i c.requires.1, f.few), omega arith)
+    let f = counting_fits (raw c.args.rows.now) c.args.self.now c.requires.0 in
+    (f, omega (arith, met_below (raw c.args.rows.now) c.args.self.now c.requires.0 c.args.i c.requires.1, f.few), omega arith)
 
 pub returns : goal.returns
 returns c =

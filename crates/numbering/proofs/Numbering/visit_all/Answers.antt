@@ -1,33 +1,33 @@
 use Rattle.std.proofs.Common.{arith}
 use Rattle.rows.specs.View.{raw}
-use Rattle.numbering.proofs.Growing.{still-counting, grown-given, met-below, grows_then, rows_none, rows_more, rows_end}
+use Rattle.numbering.proofs.Growing.{still_counting, grown_given, met_below, grows_then, rows_none, rows_more, rows_end}
 use Rattle.numbering.proofs.Numbering.visit_all.Goals as goal
 
 pub loop-i-init : goal.loop-i-init
 loop-i-init c = (rows_none (raw c.args.rows.now) c.args.self.now, omega arith)
 
 pub visit-requires : goal.visit-requires
-visit-requires c = (still-counting (raw c.args.rows.now) c.args.self.now (raw c.loop-i.rows) c.loop-i.self _ c.loop-i.invariant.0 c.requires, c.loop-i-test.true)
+visit-requires c = (still_counting (raw c.args.rows.now) c.args.self.now (raw c.loop-i.rows) c.loop-i.self _ c.loop-i.invariant.0 c.requires, c.loop-i-test.true)
 
 pub loop-i-preserved : goal.loop-i-preserved
 loop-i-preserved c =
-    let u = still-counting (raw c.args.rows.now) c.args.self.now (raw c.loop-i.rows) c.loop-i.self _ c.loop-i.invariant.0 c.requires in (
+    let u = still_counting (raw c.args.rows.now) c.args.self.now (raw c.loop-i.rows) c.loop-i.self _ c.loop-i.invariant.0 c.requires in (
       grows_then (raw c.args.rows.now) c.args.self.now (raw c.loop-i.rows) c.loop-i.self _ _ _ (raw c.visit.new.rows) c.visit.new.self
           c.loop-i.invariant.0 c.visit.ensures (rows_more c.loop-i.i),
       omega (
         arith,
-        met-below (raw c.loop-i.rows) c.loop-i.self u c.loop-i.i c.loop-i-test.true,
-        grown-given (raw c.loop-i.rows) c.loop-i.self u (raw c.visit.new.rows) c.visit.new.self _ c.visit.ensures,
+        met_below (raw c.loop-i.rows) c.loop-i.self u c.loop-i.i c.loop-i-test.true,
+        grown_given (raw c.loop-i.rows) c.loop-i.self u (raw c.visit.new.rows) c.visit.new.self _ c.visit.ensures,
       ),
     )
 
 pub loop-i-smaller : goal.loop-i-smaller
 loop-i-smaller c =
-    let u = still-counting (raw c.args.rows.now) c.args.self.now (raw c.loop-i.rows) c.loop-i.self _ c.loop-i.invariant.0 c.requires in
+    let u = still_counting (raw c.args.rows.now) c.args.self.now (raw c.loop-i.rows) c.loop-i.self _ c.loop-i.invariant.0 c.requires in
     omega (
       arith,
-      met-below (raw c.loop-i.rows) c.loop-i.self u c.loop-i.i c.loop-i-test.true,
-      grown-given (raw c.loop-i.rows) c.loop-i.self u (raw c.visit.new.rows) c.visit.new.self _ c.visit.ensures,
+      met_below (raw c.loop-i.rows) c.loop-i.self u c.loop-i.i c.loop-i-test.true,
+      grown_given (raw c.loop-i.rows) c.loop-i.self u (raw c.visit.new.rows) c.visit.new.self _ c.visit.ensures,
     )
 
 pub returns : goal.returns

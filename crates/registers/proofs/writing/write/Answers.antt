@@ -1,6 +1,6 @@
 use Rattle.std.proofs.Common.{sym, arith}
 use Rattle.registers.proofs.WrittenFiles.{writable}
-use Rattle.registers.proofs.WrittenBack.{answer-large, answer-leads, answer-memory, answer-words, read_back, same_words}
+use Rattle.registers.proofs.WrittenBack.{answer_large, answer_leads, answer_memory, answer_words, read_back, same_words}
 use Rattle.registers.proofs.writing.write.Goals as goal
 
 pub size-requires : goal.size-requires
@@ -11,21 +11,21 @@ put-file-requires g c = (writable _ (sym c.if-is-large.ensures.answer) (sym c.in
 
 pub returns-then-is-large : goal.returns-then-is-large
 returns-then-is-large g c =
-    let e = answer-large (g.R.Register.meaning c.args.register.now) c.args.out.now (sym c.if-is-large.ensures.answer) in
+    let e = answer_large (g.R.Register.meaning c.args.register.now) c.args.out.now (sym c.if-is-large.ensures.answer) in
     record { answer = e; back = read_back _ _ _ _ c.is-large.ensures.lawful e; again = same_words _ _ _ _ e }
 
 pub returns-in-Some : goal.returns-in-Some
 returns-in-Some g c =
-    let e = answer-leads (g.R.Register.meaning c.args.register.now) c.args.out.now c.in-Some.link (sym c.if-is-large.ensures.answer) (sym c.in-Some.ensures) in
+    let e = answer_leads (g.R.Register.meaning c.args.register.now) c.args.out.now c.in-Some.link (sym c.if-is-large.ensures.answer) (sym c.in-Some.ensures) in
     record { answer = e; back = read_back _ _ _ _ c.is-large.ensures.lawful e; again = same_words _ _ _ _ e }
 
 pub returns-then-size-out : goal.returns-then-size-out
 returns-then-size-out g c =
-    let e = answer-memory (g.R.Register.meaning c.args.register.now) c.args.out.now (sym c.if-is-large.ensures.answer) (sym c.in-default.ensures) (omega arith) in
+    let e = answer_memory (g.R.Register.meaning c.args.register.now) c.args.out.now (sym c.if-is-large.ensures.answer) (sym c.in-default.ensures) (omega arith) in
     record { answer = e; back = read_back _ _ _ _ c.is-large.ensures.lawful e; again = same_words _ _ _ _ e }
 
 pub returns : goal.returns
 returns g c =
-    let e = answer-words (g.R.Register.meaning c.args.register.now) c.args.out.now c.put-file.result c.put-file.new.out (sym c.if-is-large.ensures.answer) (sym c.in-default.ensures)
+    let e = answer_words (g.R.Register.meaning c.args.register.now) c.args.out.now c.put-file.result c.put-file.new.out (sym c.if-is-large.ensures.answer) (sym c.in-default.ensures)
     c.put-file.ensures.size c.put-file.ensures.words (omega arith) in
     record { answer = e; back = read_back _ _ _ _ c.is-large.ensures.lawful e; again = same_words _ _ _ _ e }

@@ -1,15 +1,15 @@
 use Rattle.rows.specs.View.{raw}
-use Rattle.rows.proofs.Checks.{link-acts, link-refused, link-kept}
+use Rattle.rows.proofs.Checks.{link_acts, link_refused, link_kept}
 use Rattle.rows.proofs.Rows.check_link.Goals as goal
 
 pub act-requires : goal.act-requires
 act-requires c =
     let L = c.requires.1.0 in
     let l = c.requires.1.1 in
-    (c.requires.0, link-acts L (raw c.args.self.now) c.args.found.now c.args.i c.args.lead l c.requires.0 _ _ c.has-lead-there.ensures (c.link-path-path.ensures L l.stands) _ c.in-Ok.ensures)
+    (c.requires.0, link_acts L (raw c.args.self.now) c.args.found.now c.args.i c.args.lead l c.requires.0 _ _ c.has-lead-there.ensures (c.link-path-path.ensures L l.stands) _ c.in-Ok.ensures)
 
 pub returns-in-Err : goal.returns-in-Err
 returns-in-Err c = record {
-  is = λ L l. link-refused L (raw c.args.self.now) c.args.found.now c.args.i c.args.lead l c.requires.0 _ _ c.has-lead-there.ensures (c.link-path-path.ensures L l.stands) _ c.in-Err.ensures;
-  after = λ L l. link-kept L (raw c.args.self.now) c.args.found.now c.args.i c.args.lead l c.requires.0 _ _ c.has-lead-there.ensures (c.link-path-path.ensures L l.stands) _ c.in-Err.ensures;
+  is = λ L l. link_refused L (raw c.args.self.now) c.args.found.now c.args.i c.args.lead l c.requires.0 _ _ c.has-lead-there.ensures (c.link-path-path.ensures L l.stands) _ c.in-Err.ensures;
+  after = λ L l. link_kept L (raw c.args.self.now) c.args.found.now c.args.i c.args.lead l c.requires.0 _ _ c.has-lead-there.ensures (c.link-path-path.ensures L l.stands) _ c.in-Err.ensures;
 }

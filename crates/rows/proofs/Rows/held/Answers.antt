@@ -1,17 +1,17 @@
 use Rattle.std.proofs.Common.{sym}
 use Rattle.rows.specs.View.{raw, slot}
-use Rattle.rows.proofs.Places.{inside-true}
-use Rattle.rows.proofs.Shown.{held_out, held_none, held-some}
+use Rattle.rows.proofs.Places.{inside_true}
+use Rattle.rows.proofs.Shown.{held_out, held_none, held_some}
 use Rattle.rows.proofs.Rows.held.Goals as goal
 
 pub returns-then-not-has : goal.returns-then-not-has
 returns-then-not-has c = held_out (raw c.args.self.now) (slot c.args.t) (sym c.if-not-has.ensures)
 
 pub place-requires : goal.place-requires
-place-requires c = (c.requires, inside-true (raw c.args.self.now).shape c.args.self.now.given (slot c.args.t) (sym c.if-not-has.ensures))
+place-requires c = (c.requires, inside_true (raw c.args.self.now).shape c.args.self.now.given (slot c.args.t) (sym c.if-not-has.ensures))
 
 pub returns-then-w-eq0 : goal.returns-then-w-eq0
 returns-then-w-eq0 c = held_none (raw c.args.self.now) (slot c.args.t) _ (sym c.if-not-has.ensures) c.place.ensures.is c.if-w-eq0.true
 
 pub returns-else-w-eq0 : goal.returns-else-w-eq0
-returns-else-w-eq0 c = held-some (raw c.args.self.now) (slot c.args.t) _ (sym c.if-not-has.ensures) c.place.ensures.is c.if-w-eq0.false
+returns-else-w-eq0 c = held_some (raw c.args.self.now) (slot c.args.t) _ (sym c.if-not-has.ensures) c.place.ensures.is c.if-w-eq0.false

@@ -1,9 +1,9 @@
 use Rattle.std.proofs.Common.{refl, rules}
-use Rattle.rows.proofs.Leads.{lead-link, lead_in, lead_is, lead-none}
+use Rattle.rows.proofs.Leads.{lead_link, lead_in, lead_is, lead_none}
 use Rattle.rows.proofs.Rows.lead.Goals as goal
 
 pub bounds-leads-i : goal.bounds-leads-i
-bounds-leads-i c = let x = c.requires.1.1 in lead-link _ _ _ _ x _ _ _ (c.source-ends-from.ensures _ x.stands) _ c.has-lead.ensures c.if-not-has-lead.false
+bounds-leads-i c = let x = c.requires.1.1 in lead_link _ _ _ _ x _ _ _ (c.source-ends-from.ensures _ x.stands) _ c.has-lead.ensures c.if-not-has-lead.false
 
 pub overflow-add-at : goal.overflow-add-at
 overflow-add-at c = let x = c.requires.1.1 in let h = lead_in _ _ _ _ x _ _ _ (c.source-ends-from.ensures _ x.stands) _ c.has-lead.ensures c.if-not-has-lead.false in search rules
@@ -15,7 +15,7 @@ pub bounds-self-at : goal.bounds-self-at
 bounds-self-at c = let x = c.requires.1.1 in lead_in _ _ _ _ x _ _ _ (c.source-ends-from.ensures _ x.stands) _ c.has-lead.ensures c.if-not-has-lead.false
 
 pub returns-then-not-has-lead : goal.returns-then-not-has-lead
-returns-then-not-has-lead c = record { led = λ L x. lead-none _ _ _ _ x _ _ _ (c.source-ends-from.ensures L x.stands) _ c.has-lead.ensures c.if-not-has-lead.true; asked = refl }
+returns-then-not-has-lead c = record { led = λ L x. lead_none _ _ _ _ x _ _ _ (c.source-ends-from.ensures L x.stands) _ c.has-lead.ensures c.if-not-has-lead.true; asked = refl }
 
 pub returns : goal.returns
 returns c = record { led = λ L x. lead_is _ _ _ _ x _ _ _ (c.source-ends-from.ensures L x.stands); asked = refl }

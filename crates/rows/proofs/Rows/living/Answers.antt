@@ -1,7 +1,7 @@
 use Rattle.std.proofs.Common.{◌∙◌, arith, rules}
 use Rattle.machine.proofs.Ranks.{rank_small}
 use Rattle.rows.specs.View.{view}
-use Rattle.rows.proofs.Faults.{rank_none, one-lives, one-is-dead}
+use Rattle.rows.proofs.Faults.{rank_none, one_lives, one_is_dead}
 use Rattle.rows.proofs.Rows.living.Goals as goal
 use Rattle.rows.proofs.Rows.living.Goals.{then-lives, else-lives}
 
@@ -13,6 +13,6 @@ overflow-add-k c = let h = rank_small (view c.args.self.now).forward c.loop-e.e 
 
 pub loop-e-preserved : goal.loop-e-preserved
 loop-e-preserved c = elim c.if-lives.branch [
-  | then-lives w ↦ w.k-is ∙ one-lives (view c.args.self.now) c.loop-e.e c.loop-e.k c.loop-e.invariant w.if-lives.ensures
-  | else-lives w ↦ w.k-is ∙ one-is-dead (view c.args.self.now) c.loop-e.e c.loop-e.k c.loop-e.invariant (omega arith) w.if-lives.ensures
+  | then-lives w ↦ w.k-is ∙ one_lives (view c.args.self.now) c.loop-e.e c.loop-e.k c.loop-e.invariant w.if-lives.ensures
+  | else-lives w ↦ w.k-is ∙ one_is_dead (view c.args.self.now) c.loop-e.e c.loop-e.k c.loop-e.invariant (omega arith) w.if-lives.ensures
 ]

@@ -1,5 +1,5 @@
 use Rattle.std.proofs.Common.{sym, ◌∙◌, arith}
-use Rattle.machine.proofs.Base.{chase-fix, end-forward}
+use Rattle.machine.proofs.Base.{chase_fix, end_forward}
 use Rattle.rows.specs.View.{view}
 use Rattle.rows.proofs.Rows.living_end.Goals as goal
 
@@ -8,8 +8,8 @@ loop-f-preserved c =
     let s = view c.args.self.now in
     let i = c.loop-f.invariant in
     let h = c.requires.0.lower c.loop-f.x in
-    (omega arith, c.forward-f-in-loop-f.ensures, rw i.1 (end-forward s.forward c.requires.0.lower c.loop-f.x ∙ i.2))
+    (omega arith, c.forward-f-in-loop-f.ensures, rw i.1 (end_forward s.forward c.requires.0.lower c.loop-f.x ∙ i.2))
 
 pub returns : goal.returns
 returns c = let i = c.loop-f.invariant in
-    sym (chase-fix (view c.args.self.now).forward c.loop-f.x c.loop-f.x (sym i.1 ∙ c.loop-f-test.false)) ∙ i.2
+    sym (chase_fix (view c.args.self.now).forward c.loop-f.x c.loop-f.x (sym i.1 ∙ c.loop-f-test.false)) ∙ i.2

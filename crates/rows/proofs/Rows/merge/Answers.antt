@@ -1,7 +1,7 @@
 use Rattle.machine.specs.Merging.{die, merge}
 use Rattle.rows.specs.View.{raw, view}
 use Rattle.rows.proofs.Keeps.{becomes_as, becomes_none}
-use Rattle.rows.proofs.Settled.{end_is, merge-first, merge-second, merge-same}
+use Rattle.rows.proofs.Settled.{end_is, merge_first, merge_second, merge_same}
 use Rattle.rows.proofs.Rows.merge.Goals as goal
 
 pub die-requires : goal.die-requires
@@ -16,12 +16,12 @@ die-requires-then-y-x c =
 
 pub returns-then-x-y : goal.returns-then-x-y
 returns-then-x-y c = becomes_as _ _ (die c.living-end-y.result c.living-end-x.result) (merge c.args.a c.args.b) c.die.ensures
-    (merge-first (view c.args.self.now) _ _ _ _ c.living-end-x.ensures c.living-end-y.ensures c.if-x-y.true)
+    (merge_first (view c.args.self.now) _ _ _ _ c.living-end-x.ensures c.living-end-y.ensures c.if-x-y.true)
 
 pub returns-then-y-x : goal.returns-then-y-x
 returns-then-y-x c = becomes_as _ _ (die c.living-end-x.result c.living-end-y.result) (merge c.args.a c.args.b) c.die-then-y-x.ensures
-    (merge-second (view c.args.self.now) _ _ _ _ c.living-end-x.ensures c.living-end-y.ensures c.if-y-x.true)
+    (merge_second (view c.args.self.now) _ _ _ _ c.living-end-x.ensures c.living-end-y.ensures c.if-y-x.true)
 
 pub returns-else-y-x : goal.returns-else-y-x
 returns-else-y-x c = becomes_as _ _ (λ s. s) (merge c.args.a c.args.b) (becomes_none (raw c.args.self.now) c.requires.0)
-    (merge-same (view c.args.self.now) _ _ _ _ c.living-end-x.ensures c.living-end-y.ensures c.if-y-x.false c.if-x-y.false)
+    (merge_same (view c.args.self.now) _ _ _ _ c.living-end-x.ensures c.living-end-y.ensures c.if-y-x.false c.if-x-y.false)

@@ -4,7 +4,7 @@ use Rattle.machine.specs.Settling.{take_over, pull}
 use Rattle.rows.specs.Layout.{Shape}
 use Rattle.rows.specs.View.{raw, view}
 use Rattle.rows.proofs.Keeps.{becomes_as, becomes_then, becomes_none}
-use Rattle.rows.proofs.Settled.{end_is, pull-none, pull-some}
+use Rattle.rows.proofs.Settled.{end_is, pull_none, pull_some}
 use Rattle.rows.proofs.Rows.pull.Goals as goal
 
 pub living-end-w-requires : goal.living-end-w-requires
@@ -25,8 +25,8 @@ returns-in-Some c =
     let f = hold (cell c.args.v c.args.l) None in
     let g = take_over c.living-end-u.result c.args.l c.living-end-w.result in
     becomes_as _ _ (λ s. g (f s)) (pull c.args.v c.args.l) (becomes_then _ _ _ f g c.empty.ensures c.take_over.ensures)
-    (pull-some (view c.args.self.now) _ _ _ _ _ (sym c.cell.ensures ∙ c.in-Some.is) c.living-end-u.ensures c.living-end-w.ensures)
+    (pull_some (view c.args.self.now) _ _ _ _ _ (sym c.cell.ensures ∙ c.in-Some.is) c.living-end-u.ensures c.living-end-w.ensures)
 
 pub returns-in-default : goal.returns-in-default
 returns-in-default c = becomes_as _ _ (λ s. s) (pull c.args.v c.args.l) (becomes_none (raw c.args.self.now) c.requires.0)
-    (pull-none (view c.args.self.now) _ _ (sym c.cell.ensures ∙ c.in-default.is))
+    (pull_none (view c.args.self.now) _ _ (sym c.cell.ensures ∙ c.in-default.is))

@@ -3,12 +3,12 @@ use Rattle.machine.specs.State.{State}
 use Rattle.rows.specs.Layout.{Shape}
 use Rattle.rows.specs.Sweeps.{renames, in_row, in_rows}
 use Rattle.rows.specs.View.{raw, view}
-use Rattle.rows.proofs.SweepStates.{renames-none, renames-more, none_in_rows, rows_more}
+use Rattle.rows.proofs.SweepStates.{renames_none, renames_more, none_in_rows, rows_more}
 use Rattle.rows.proofs.SweepSteps.{goes_none, goes_then, goes_to}
 use Rattle.rows.proofs.Rows.rename_cells.Goals as goal
 
 pub loop-e-init : goal.loop-e-init
-loop-e-init c = (goes_none (raw c.args.self.now) (renames (in_rows 0 c.args.self.now.links)) c.requires.0 (renames-none (view c.args.self.now) _ (none_in_rows c.args.self.now.links)), c.requires.1)
+loop-e-init c = (goes_none (raw c.args.self.now) (renames (in_rows 0 c.args.self.now.links)) c.requires.0 (renames_none (view c.args.self.now) _ (none_in_rows c.args.self.now.links)), c.requires.1)
 
 pub rename-row-requires : goal.rename-row-requires
 rename-row-requires c =
@@ -23,7 +23,7 @@ loop-e-preserved c =
     let l = ap (λ (h : Shape). h.links) i.0.same.shape in
     let g = goes_to (raw c.loop-e.self) (raw c.rename-row.new.self) (λ n. renames (in_row c.loop-e.e n)) _ c.args.self.now.links l o.goes in (
       goes_then (raw c.args.self.now) (raw c.loop-e.self) (raw c.rename-row.new.self) _ _ _ i.0 g
-          (renames-more (view c.args.self.now) _ (in_row c.loop-e.e c.args.self.now.links) _ (rows_more c.loop-e.e c.args.self.now.links)),
+          (renames_more (view c.args.self.now) _ (in_row c.loop-e.e c.args.self.now.links) _ (rows_more c.loop-e.e c.args.self.now.links)),
       o.ranked,
     )
 

@@ -3,12 +3,12 @@ use Rattle.machine.specs.State.{landing, same}
 use Rattle.rows.specs.Layout.{Shape, count}
 use Rattle.rows.specs.Sweeps.{renames, in_kind}
 use Rattle.rows.specs.View.{raw, view}
-use Rattle.rows.proofs.SweepStates.{renames-none, renames-more, none_in_kind, kind_more}
+use Rattle.rows.proofs.SweepStates.{renames_none, renames_more, none_in_kind, kind_more}
 use Rattle.rows.proofs.SweepSteps.{goes_none, goes_then, goes_to}
 use Rattle.rows.proofs.Rows.rename_kind.Goals as goal
 
 pub loop-q-init : goal.loop-q-init
-loop-q-init c = (goes_none (raw c.args.self.now) (renames (in_kind c.args.k 0)) c.requires.0 (renames-none (view c.args.self.now) _ (none_in_kind c.args.k)), c.requires.1)
+loop-q-init c = (goes_none (raw c.args.self.now) (renames (in_kind c.args.k 0)) c.requires.0 (renames_none (view c.args.self.now) _ (none_in_kind c.args.k)), c.requires.1)
 
 pub rename-requires : goal.rename-requires
 rename-requires c =
@@ -22,7 +22,7 @@ loop-q-preserved c =
     let i = c.loop-q.invariant in
     let o = c.rename.ensures in (
       goes_then (raw c.args.self.now) (raw c.loop-q.self) (raw c.rename.new.self) _ _ _ i.0 o.goes
-          (renames-more (view c.args.self.now) _ (λ u. same u (landing c.args.k c.loop-q.q)) _ (kind_more c.args.k c.loop-q.q)),
+          (renames_more (view c.args.self.now) _ (λ u. same u (landing c.args.k c.loop-q.q)) _ (kind_more c.args.k c.loop-q.q)),
       o.ranked,
     )
 

@@ -2,13 +2,13 @@ use Rattle.std.proofs.Common.{ap, arith}
 use Rattle.rows.specs.Layout.{Shape, count}
 use Rattle.rows.specs.Sweeps.{renames, in_kind, in_kinds}
 use Rattle.rows.specs.View.{raw, view}
-use Rattle.rows.proofs.SweepStates.{renames-none, renames-more, none_in_kinds, kinds_more}
+use Rattle.rows.proofs.SweepStates.{renames_none, renames_more, none_in_kinds, kinds_more}
 use Rattle.rows.proofs.SweepSteps.{goes_none, goes_then, goes_to}
 use Rattle.rows.proofs.Rows.rename_landings.Goals as goal
 
 pub loop-k-init : goal.loop-k-init
 loop-k-init c = let h = (raw c.args.self.now).shape in
-    (goes_none (raw c.args.self.now) (renames (in_kinds h 0)) c.requires.0 (renames-none (view c.args.self.now) _ (none_in_kinds h)), c.requires.1)
+    (goes_none (raw c.args.self.now) (renames (in_kinds h 0)) c.requires.0 (renames_none (view c.args.self.now) _ (none_in_kinds h)), c.requires.1)
 
 pub rename-kind-requires : goal.rename-kind-requires
 rename-kind-requires c =
@@ -24,7 +24,7 @@ loop-k-preserved c =
     let l = ap (λ (h : Shape). count h c.loop-k.k) i.0.same.shape in
     let g = goes_to (raw c.loop-k.self) (raw c.rename-kind.new.self) (λ n. renames (in_kind c.loop-k.k n)) _ (count h c.loop-k.k) l o.goes in (
       goes_then (raw c.args.self.now) (raw c.loop-k.self) (raw c.rename-kind.new.self) _ _ _ i.0 g
-          (renames-more (view c.args.self.now) _ (in_kind c.loop-k.k (count h c.loop-k.k)) _ (kinds_more h c.loop-k.k)),
+          (renames_more (view c.args.self.now) _ (in_kind c.loop-k.k (count h c.loop-k.k)) _ (kinds_more h c.loop-k.k)),
       o.ranked,
     )
 

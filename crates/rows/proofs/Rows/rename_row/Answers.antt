@@ -3,12 +3,12 @@ use Rattle.machine.specs.State.{State, cell, same}
 use Rattle.rows.specs.Layout.{Shape}
 use Rattle.rows.specs.Sweeps.{renames, in_row}
 use Rattle.rows.specs.View.{raw, view}
-use Rattle.rows.proofs.SweepStates.{renames-none, renames-more, none_in_row, row_more}
+use Rattle.rows.proofs.SweepStates.{renames_none, renames_more, none_in_row, row_more}
 use Rattle.rows.proofs.SweepSteps.{goes_none, goes_then, goes_to}
 use Rattle.rows.proofs.Rows.rename_row.Goals as goal
 
 pub loop-l-init : goal.loop-l-init
-loop-l-init c = (goes_none (raw c.args.self.now) (renames (in_row c.args.e 0)) c.requires.0 (renames-none (view c.args.self.now) _ (none_in_row c.args.e)), c.requires.1)
+loop-l-init c = (goes_none (raw c.args.self.now) (renames (in_row c.args.e 0)) c.requires.0 (renames_none (view c.args.self.now) _ (none_in_row c.args.e)), c.requires.1)
 
 pub rename-requires : goal.rename-requires
 rename-requires c =
@@ -22,7 +22,7 @@ loop-l-preserved c =
     let i = c.loop-l.invariant in
     let o = c.rename.ensures in (
       goes_then (raw c.args.self.now) (raw c.loop-l.self) (raw c.rename.new.self) _ _ _ i.0 o.goes
-          (renames-more (view c.args.self.now) _ (λ u. same u (cell c.args.e c.loop-l.l)) _ (row_more c.args.e c.loop-l.l)),
+          (renames_more (view c.args.self.now) _ (λ u. same u (cell c.args.e c.loop-l.l)) _ (row_more c.args.e c.loop-l.l)),
       o.ranked,
     )
 

@@ -1,9 +1,9 @@
 use Rattle.rows.specs.View.{raw}
-use Rattle.rows.proofs.Reheld.{lands-in, becomes-replaced}
+use Rattle.rows.proofs.Reheld.{lands_in, becomes_replaced}
 use Rattle.rows.proofs.Rows.replace.Goals as goal
 
 pub swap-requires : goal.swap-requires
-swap-requires c = lands-in (raw c.args.self.now) c.requires.0 c.args.v c.args.u (raw c.swap-rows.new.self) c.swap-rows.ensures
+swap-requires c = lands_in (raw c.args.self.now) c.requires.0 c.args.v c.args.u (raw c.swap-rows.new.self) c.swap-rows.ensures
 
 pub returns : goal.returns
-returns c = becomes-replaced (raw c.args.self.now) c.requires.0 c.args.v c.args.u (raw c.swap-rows.new.self) c.swap-rows.ensures _ c.swap.ensures c.requires.2
+returns c = becomes_replaced (raw c.args.self.now) c.requires.0 c.args.v c.args.u (raw c.swap-rows.new.self) c.swap-rows.ensures _ c.swap.ensures c.requires.2

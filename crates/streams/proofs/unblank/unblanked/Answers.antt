@@ -6,7 +6,7 @@ use Rattle.registers.specs.WriteFaults.{write_fault}
 use Rattle.streams.specs.Sending.{faulted, whole}
 use Rattle.streams.specs.Unblank.{answer}
 use Rattle.streams.proofs.Sending.{carried}
-use Rattle.streams.proofs.Unblanking.{read-refused, read_done, answer_file, write_refused, write_done}
+use Rattle.streams.proofs.Unblanking.{read_refused, read_done, answer_file, write_refused, write_done}
 use Rattle.streams.proofs.unblank.unblanked.Goals as goal
 use Rattle.streams.proofs.unblank.unblanked.Goals.{After-write, at·returns, at·returns-in-err-count}
 
@@ -16,7 +16,7 @@ returns-then-input-gt-BYTES c = search rules
 
 pub returns-in-err-take : goal.returns-in-err-take
 returns-in-err-take c =
-    let a = read-refused _ _ _ _ c.to-words-count.ensures.count c.to-words-count.ensures.words c.told-words c.if-input-gt-BYTES.false _
+    let a = read_refused _ _ _ _ c.to-words-count.ensures.count c.to-words-count.ensures.words c.told-words c.if-input-gt-BYTES.false _
     (sym c.in-err-take.ensures.answer) in
     record {
       room = IfOk-from_err _ _ c.from-residual.ensures.0;

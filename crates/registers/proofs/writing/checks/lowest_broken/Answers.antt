@@ -1,6 +1,6 @@
 use Rattle.std.proofs.Common.{sym, refl, arith}
 use Rattle.registers.specs.Writing.{lowest}
-use Rattle.registers.proofs.WrittenLists.{lowest-more, lowest-found}
+use Rattle.registers.proofs.WrittenLists.{lowest_more, lowest_found}
 use Rattle.registers.proofs.writing.checks.lowest_broken.Goals as goal
 
 pub loop-link-init : goal.loop-link-init
@@ -8,7 +8,7 @@ unfolding lowest
 loop-link-init g c = refl
 
 pub loop-link-preserved : goal.loop-link-preserved
-loop-link-preserved g c = lowest-more _ _ c.loop-link.invariant (sym c.if-is-broken.ensures)
+loop-link-preserved g c = lowest_more _ _ c.loop-link.invariant (sym c.if-is-broken.ensures)
 
 pub returns-then-is-broken : goal.returns-then-is-broken
-returns-then-is-broken g c = lowest-found _ c.loop-link.link _ (omega arith) c.loop-link.invariant (sym c.if-is-broken.ensures)
+returns-then-is-broken g c = lowest_found _ c.loop-link.link _ (omega arith) c.loop-link.invariant (sym c.if-is-broken.ensures)

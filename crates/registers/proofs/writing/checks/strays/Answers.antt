@@ -1,6 +1,6 @@
 use Rattle.std.proofs.Common.{refl, arith}
 use Rattle.registers.specs.Writing.{some_below}
-use Rattle.registers.proofs.WrittenLists.{none_more, some-found, astray_at}
+use Rattle.registers.proofs.WrittenLists.{none_more, some_found, astray_at}
 use Rattle.registers.proofs.writing.checks.strays.Goals as goal
 
 pub loop-r-init : goal.loop-r-init
@@ -12,4 +12,4 @@ loop-r-preserved g c = none_more _ _ c.loop-r.invariant (astray_at _ _ _ _ _ c.i
 
 pub returns-then-astray : goal.returns-then-astray
 returns-then-astray g c =
-    some-found _ c.loop-r.r _ (omega arith) (astray_at _ _ _ _ _ c.if-astray.ensures c.count-size.ensures c.follow.ensures)
+    some_found _ c.loop-r.r _ (omega arith) (astray_at _ _ _ _ _ c.if-astray.ensures c.count-size.ensures c.follow.ensures)

@@ -1,12 +1,12 @@
 use Rattle.std.proofs.Common.{arith}
-use Rattle.registers.proofs.WrittenParts.{counts-none, counts-more}
+use Rattle.registers.proofs.WrittenParts.{counts_none, counts_more}
 use Rattle.registers.proofs.writing.parts.put_counts.Goals as goal
 
 pub loop-kind-init : goal.loop-kind-init
-loop-kind-init g c = counts-none _ _
+loop-kind-init g c = counts_none _ _
 
 pub loop-kind-preserved : goal.loop-kind-preserved
-loop-kind-preserved g c = counts-more _ c.loop-kind.kind _ _ _ _ (omega arith) c.count.ensures c.loop-kind.invariant c.put.ensures
+loop-kind-preserved g c = counts_more _ c.loop-kind.kind _ _ _ _ (omega arith) c.count.ensures c.loop-kind.invariant c.put.ensures
 
 pub put-requires : goal.put-requires
 put-requires g c = (omega arith, omega (arith, c.requires.0.small c.loop-kind.kind (omega arith)))

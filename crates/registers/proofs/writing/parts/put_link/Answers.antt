@@ -1,26 +1,26 @@
 use Rattle.std.proofs.Common.{arith}
-use Rattle.registers.proofs.WrittenParts.{row-length, link-put}
-use Rattle.registers.proofs.WrittenFiles.{ends-fit, leads-fit}
+use Rattle.registers.proofs.WrittenParts.{row_length, link_put}
+use Rattle.registers.proofs.WrittenFiles.{ends_fit, leads_fit}
 use Rattle.registers.proofs.writing.parts.put_link.Goals as goal
 
 pub put-requires : goal.put-requires
 put-requires g c =
     let m = g.R.Register.meaning c.args.register.now in
-    let n = row-length m c.args.link c.in-Some.from c.in-Some.to c.in-Some.ensures in
-    let s = ends-fit m c.requires.0 c.args.link c.in-Some.from c.in-Some.to c.requires.1.0 c.in-Some.ensures in
+    let n = row_length m c.args.link c.in-Some.from c.in-Some.to c.in-Some.ensures in
+    let s = ends_fit m c.requires.0 c.args.link c.in-Some.from c.in-Some.to c.requires.1.0 c.in-Some.ensures in
     (omega arith, omega (arith, s.0, s.1))
 
 pub put-records-requires : goal.put-records-requires
 put-records-requires g c =
     let m = g.R.Register.meaning c.args.register.now in
-    let n = row-length m c.args.link c.in-Some.from c.in-Some.to c.in-Some.ensures in
-    (λ r h. leads-fit m c.requires.0 c.args.link c.in-Some.from c.in-Some.to c.requires.1.0 c.in-Some.ensures r (omega arith), omega arith)
+    let n = row_length m c.args.link c.in-Some.from c.in-Some.to c.in-Some.ensures in
+    (λ r h. leads_fit m c.requires.0 c.args.link c.in-Some.from c.in-Some.to c.requires.1.0 c.in-Some.ensures r (omega arith), omega arith)
 
 pub returns : goal.returns
 returns g c =
     let m = g.R.Register.meaning c.args.register.now in
-    let n = row-length m c.args.link c.in-Some.from c.in-Some.to c.in-Some.ensures in
+    let n = row_length m c.args.link c.in-Some.from c.in-Some.to c.in-Some.ensures in
     record {
       next = omega arith;
-      words = link-put m c.args.link c.args.at c.in-Some.from c.in-Some.to _ _ _ _ (omega arith) c.in-Some.ensures c.count-n.ensures c.put.ensures c.put-records.ensures;
+      words = link_put m c.args.link c.args.at c.in-Some.from c.in-Some.to _ _ _ _ (omega arith) c.in-Some.ensures c.count-n.ensures c.put.ensures c.put-records.ensures;
     }

@@ -1,14 +1,14 @@
 use Rattle.std.proofs.Common.{◌≡◌, unwrap_or, ap, ◌∙◌, arith}
 use Rattle.registers.specs.Writing.{lead}
-use Rattle.registers.proofs.WrittenParts.{records-none, records-more}
+use Rattle.registers.proofs.WrittenParts.{records_none, records_more}
 use Rattle.registers.proofs.writing.parts.put_records.Goals as goal
 
 pub loop-r-init : goal.loop-r-init
-loop-r-init g c = records-none _ _ _ _
+loop-r-init g c = records_none _ _ _ _
 
 pub loop-r-preserved : goal.loop-r-preserved
 loop-r-preserved g c =
-    records-more _ c.args.link _ c.loop-r.r _ _ _ _ (omega arith) (c.unwrap-or-led.ensures ∙ ap (λ o. unwrap_or o 0) c.follow.ensures) c.loop-r.invariant c.put.ensures
+    records_more _ c.args.link _ c.loop-r.r _ _ _ _ (omega arith) (c.unwrap-or-led.ensures ∙ ap (λ o. unwrap_or o 0) c.follow.ensures) c.loop-r.invariant c.put.ensures
 
 pub put-requires : goal.put-requires
 put-requires g c =

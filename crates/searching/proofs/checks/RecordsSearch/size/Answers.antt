@@ -1,6 +1,6 @@
 use Rattle.std.proofs.Common.{arith}
 use Rattle.rows.specs.View.{raw}
-use Rattle.searching.proofs.Records.{from_known, from-counted}
+use Rattle.searching.proofs.Records.{from_known, from_counted}
 use Rattle.searching.proofs.checks.RecordsSearch.size.Goals as goal
 
 pub bounds-rows-from : goal.bounds-rows-from
@@ -14,4 +14,4 @@ bounds-rows-from c =
 pub returns : goal.returns
 returns c L h =
     let here = c.requires.2 L h in
-    from-counted L (raw c.args.rows.now) c.args.found.now c.args.-leads.now h c.args.self.now.link here _ (c.source-ends-from.ensures L h.stands here).0
+    from_counted L (raw c.args.rows.now) c.args.found.now c.args.-leads.now h c.args.self.now.link here _ (c.source-ends-from.ensures L h.stands here).0

@@ -2,7 +2,7 @@ use Rattle.std.proofs.Common.{true, false, Ok, ap, ◌∙◌}
 use Rattle.rows.specs.View.{raw}
 use Rattle.table.specs.Tabled.{took}
 use Rattle.table.proofs.After.{holds, ends}
-use Rattle.table.proofs.Asked.{cell-asked}
+use Rattle.table.proofs.Asked.{cell_asked}
 use Rattle.table.proofs.table.Table.cell.Goals as goal
 
 pub link-ends-from-requires : goal.link-ends-from-requires
@@ -13,11 +13,11 @@ returns-then-leaves c =
     let t = c.args.self.now in
     let h = c.if-not-self.false in
     let e = ends t h c.args.l c.link-ends-from.result c.link-ends-from.ensures in
-    ap Ok c.cell.ensures ∙ cell-asked t.leads (raw t.rows) (holds t h).carries t.loaded h c.args.e c.args.l c.link-ends-from.result.0 (λ k. (e k).0) true c.if-leaves.ensures
+    ap Ok c.cell.ensures ∙ cell_asked t.leads (raw t.rows) (holds t h).carries t.loaded h c.args.e c.args.l c.link-ends-from.result.0 (λ k. (e k).0) true c.if-leaves.ensures
 
 pub returns-else-leaves : goal.returns-else-leaves
 returns-else-leaves c =
     let t = c.args.self.now in
     let h = c.if-not-self.false in
     let e = ends t h c.args.l c.link-ends-from.result c.link-ends-from.ensures in
-    cell-asked t.leads (raw t.rows) (holds t h).carries t.loaded h c.args.e c.args.l c.link-ends-from.result.0 (λ k. (e k).0) false c.if-leaves.ensures
+    cell_asked t.leads (raw t.rows) (holds t h).carries t.loaded h c.args.e c.args.l c.link-ends-from.result.0 (λ k. (e k).0) false c.if-leaves.ensures

@@ -1,12 +1,12 @@
 use Rattle.std.proofs.Common.{◌≡◌, sym, arith}
 use Rattle.words.specs.declared.faults.Refusal.TheVariants as refusal
 use Rattle.table.specs.Tabled.{took}
-use Rattle.table.proofs.After.{unchanged, promise-same, view-same, origin-same}
-use Rattle.table.proofs.Finished.{refused, while-waiting, incomplete, may-count, may-finish, accepted, back}
+use Rattle.table.proofs.After.{unchanged, promise_same, view_same, origin_same}
+use Rattle.table.proofs.Finished.{refused, while_waiting, incomplete, may_count, may_finish, accepted, back}
 use Rattle.table.proofs.table.Table.finish.Goals as goal
 
 pub returns-then-self-gt0 : goal.returns-then-self-gt0
-returns-then-self-gt0 c = let t = c.args.self.now in refused t refusal.Waiting _ (while-waiting t c.if-not-self.false c.if-self-gt0.true _)
+returns-then-self-gt0 c = let t = c.args.self.now in refused t refusal.Waiting _ (while_waiting t c.if-not-self.false c.if-self-gt0.true _)
 
 pub returns-then-is-some : goal.returns-then-is-some
 returns-then-is-some c =
@@ -17,8 +17,8 @@ pub finish-requires : goal.finish-requires
 finish-requires c =
     let t = c.args.self.now in
     let loaded = c.if-not-self.false in (
-      may-count t loaded (omega (arith, c.if-self-gt0.false)) c.next.result c.next.ensures (sym c.if-is-some.ensures),
-      (took t, may-finish t loaded (omega (arith, c.if-self-gt0.false)) c.next.result c.next.ensures (sym c.if-is-some.ensures)),
+      may_count t loaded (omega (arith, c.if-self-gt0.false)) c.next.result c.next.ensures (sym c.if-is-some.ensures),
+      (took t, may_finish t loaded (omega (arith, c.if-self-gt0.false)) c.next.result c.next.ensures (sym c.if-is-some.ensures)),
     )
 
 pub invariant-of-self : goal.invariant-of-self
@@ -30,11 +30,11 @@ returns c =
     let loaded = c.if-not-self.false in
     let quiet : t.rows.waits ≡ 0 = omega (arith, c.if-self-gt0.false) in
     let none = sym c.if-is-some.ensures in
-    let put = c.finish.ensures.answer (took t) (may-finish t loaded quiet c.next.result c.next.ensures none) in
+    let put = c.finish.ensures.answer (took t) (may_finish t loaded quiet c.next.result c.next.ensures none) in
     record {
       answer = accepted t loaded quiet c.next.result c.next.ensures none c.finish.result c.args.out.now c.finish.new.out put;
-      same = view-same t loaded c.finish.new.rows c.finish.ensures.after;
-      kept = origin-same t loaded c.finish.new.rows (λ s. s) c.finish.ensures.after;
-      promise = promise-same t loaded c.finish.new.rows c.finish.ensures.after;
+      same = view_same t loaded c.finish.new.rows c.finish.ensures.after;
+      kept = origin_same t loaded c.finish.new.rows (λ s. s) c.finish.ensures.after;
+      promise = promise_same t loaded c.finish.new.rows c.finish.ensures.after;
       back = back t loaded quiet c.next.result c.next.ensures none c.finish.result c.args.out.now c.finish.new.out put;
     }

@@ -3,8 +3,8 @@ use Rattle.machine.specs.Calls.{settle, settle_fault, apply}
 use Rattle.machine.specs.Tables.{answered}
 use Rattle.rows.specs.View.{raw}
 use Rattle.table.specs.Tabled.{took}
-use Rattle.table.proofs.After.{holds, first-known, still, called}
-use Rattle.table.proofs.Asked.{settling, settling-told, idle}
+use Rattle.table.proofs.After.{holds, first_known, still, called}
+use Rattle.table.proofs.Asked.{settling, settling_told, idle}
 use Rattle.table.proofs.Ghosts.{tidy}
 use Rattle.table.proofs.Promises.{left}
 use Rattle.table.proofs.table.Table.settle.Goals as goal
@@ -16,7 +16,7 @@ pub settle-requires : goal.settle-requires
 settle-requires c =
     let t = c.args.self.now in
     let some : 0 < t.rows.waits = omega (arith, c.if-self-eq0.false) in
-    (tidy t, some, first-known t c.if-not-self.false some)
+    (tidy t, some, first_known t c.if-not-self.false some)
 
 pub invariant-of-self : goal.invariant-of-self
 invariant-of-self c =
@@ -32,4 +32,4 @@ returns c =
     let some : 0 < t.rows.waits = omega (arith, c.if-self-eq0.false) in
     let b = c.settle.ensures (took t) (holds t h).carries.links in
     called t h c.settle.new.self settle (settling (took t) (raw t.rows) (raw c.settle.new.self) some b)
-    (λ L s. answered (settle_fault s) (length (apply L settle s).waiting)) _ (settling-told (took t) (raw t.rows) (raw c.settle.new.self) some b)
+    (λ L s. answered (settle_fault s) (length (apply L settle s).waiting)) _ (settling_told (took t) (raw t.rows) (raw c.settle.new.self) some b)

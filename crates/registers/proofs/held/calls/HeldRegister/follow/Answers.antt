@@ -1,24 +1,24 @@
 use Rattle.std.proofs.Common.{Some, ap, ◌∙◌, arith, rules}
-use Rattle.registers.proofs.Answering.{follow-inside, follow-gives, follow-stops}
+use Rattle.registers.proofs.Answering.{follow_inside, follow_gives, follow_stops}
 use Rattle.registers.proofs.held.calls.HeldRegister.follow.Goals as goal
 
 pub returns-then-record-count : goal.returns-then-record-count
 returns-then-record-count c =
     let h = c.args.self.now in
-    follow-stops h.words.now h.kinds h.links h.places h.kinded h.linked h.placed c.args.link c.args.record c.count.result _
+    follow_stops h.words.now h.kinds h.links h.places h.kinded h.linked h.placed c.args.link c.args.record c.count.result _
     c.in-ok-from.ensures c.count.ensures c.if-record-count.true
 
 pub overflow-add-place : goal.overflow-add-place
 overflow-add-place c =
     let h = c.args.self.now in
-    let w = follow-inside h.words.now h.kinds h.links h.places h.kinded h.linked h.placed c.args.link c.args.record c.count.result (c.in-ok-from.from, c.in-ok-from.field-0-1)
+    let w = follow_inside h.words.now h.kinds h.links h.places h.kinded h.linked h.placed c.args.link c.args.record c.count.result (c.in-ok-from.from, c.in-ok-from.field-0-1)
     c.in-ok-from.ensures c.count.ensures c.if-record-count.false in
     search rules
 
 pub overflow-add-place-2 : goal.overflow-add-place-2
 overflow-add-place-2 c =
     let h = c.args.self.now in
-    let w = follow-inside h.words.now h.kinds h.links h.places h.kinded h.linked h.placed c.args.link c.args.record c.count.result (c.in-ok-from.from, c.in-ok-from.field-0-1)
+    let w = follow_inside h.words.now h.kinds h.links h.places h.kinded h.linked h.placed c.args.link c.args.record c.count.result (c.in-ok-from.from, c.in-ok-from.field-0-1)
     c.in-ok-from.ensures c.count.ensures c.if-record-count.false in
     search rules
 
@@ -26,5 +26,5 @@ pub returns : goal.returns
 returns c =
     let h = c.args.self.now in
     ap Some c.fields-at.ensures
-    ∙ follow-gives h.words.now h.kinds h.links h.places h.kinded h.linked h.placed c.args.link c.args.record c.count.result _
+    ∙ follow_gives h.words.now h.kinds h.links h.places h.kinded h.linked h.placed c.args.link c.args.record c.count.result _
     c.in-ok-from.ensures c.count.ensures c.if-record-count.false
