@@ -21,7 +21,7 @@ fn ends(problem: &[u32], schema: Schema, link: u32) -> (u32, u32)
 // How many records a source link leaves.
 pub(crate) fn leaving<R: Register>(problem: &[u32], schema: Schema, source: &R, link: u32) -> u32
     requires { (Sourced problem.now schema) × (link < schema.links) }
-    ensures { result ≡ leaving (problem_in problem.now) (meaning source.now).count link }
+    ensures { result ≡ leaving (problem_in problem.now) (R.meaning source.now).count link }
 {
     source.count(ends(problem, schema, link).0)
 }
@@ -29,7 +29,7 @@ pub(crate) fn leaving<R: Register>(problem: &[u32], schema: Schema, source: &R, 
 // Whether the source's link has other ends than the schema's.
 fn other_ends<R: Register>(problem: &[u32], schema: Schema, source: &R, link: u32) -> bool
     requires { (Sourced problem.now schema) × (link < schema.links) }
-    ensures { result ≡ other_ends (source_link (problem_in problem.now) link) ((meaning source.now).ends link) }
+    ensures { result ≡ other_ends (source_link (problem_in problem.now) link) ((R.meaning source.now).ends link) }
 {
     let (from, to) = ends(problem, schema, link);
     match source.ends(link) {
@@ -41,7 +41,7 @@ fn other_ends<R: Register>(problem: &[u32], schema: Schema, source: &R, link: u3
 // Whether some link of the source has other ends.
 fn some_other_ends<R: Register>(problem: &[u32], schema: Schema, source: &R) -> bool
     requires { Sourced problem.now schema }
-    ensures { result ≡ some_below (λ i. other_ends (source_link (problem_in problem.now) i) ((meaning source.now).ends i)) (length (problem_in problem.now).source_links) }
+    ensures { result ≡ some_below (λ i. other_ends (source_link (problem_in problem.now) i) ((R.meaning source.now).ends i)) (length (problem_in problem.now).source_links) }
 {
     let links = schema.links as u32;
     for link in 0..links {
@@ -55,8 +55,8 @@ fn some_other_ends<R: Register>(problem: &[u32], schema: Schema, source: &R) -> 
 // Whether the source has other kinds, links or ends than the schema.
 pub(crate) fn other_shape<R: Register>(problem: &[u32], schema: Schema, source: &R) -> bool
     requires { Sourced problem.now schema }
-    ensures answer { result ≡ other_shape (problem_in problem.now) (meaning source.now) }
-    ensures lawful { Lawful (meaning source.now) }
+    ensures answer { result ≡ other_shape (problem_in problem.now) (R.meaning source.now) }
+    ensures lawful { Lawful (R.meaning source.now) }
 {
     source.kinds() != schema.kinds
         || source.links() as usize != schema.links
@@ -75,7 +75,7 @@ fn astray(size: u32, answer: Option<u32>) -> bool
 
 // Whether a record of one kind does not lead to one of another.
 fn strays<R: Register>(source: &R, link: u32, from: u32, to: u32) -> bool
-    ensures { result ≡ strays_of (meaning source.now) link from to }
+    ensures { result ≡ strays_of (R.meaning source.now) link from to }
 {
     let size = source.count(to);
     for r in 0..source.count(from) {
@@ -89,7 +89,7 @@ fn strays<R: Register>(source: &R, link: u32, from: u32, to: u32) -> bool
 // Whether a record that the link leaves does not lead to one where it ends.
 fn link_strays<R: Register>(problem: &[u32], schema: Schema, source: &R, link: u32) -> bool
     requires { (Sourced problem.now schema) × (link < schema.links) }
-    ensures { result ≡ link_strays (problem_in problem.now) (meaning source.now) link }
+    ensures { result ≡ link_strays (problem_in problem.now) (R.meaning source.now) link }
 {
     let (from, to) = ends(problem, schema, link);
     strays(source, link, from, to)
@@ -98,7 +98,7 @@ fn link_strays<R: Register>(problem: &[u32], schema: Schema, source: &R, link: u
 // The lowest link that strays.
 pub(crate) fn lowest_stray<R: Register>(problem: &[u32], schema: Schema, source: &R) -> Option<u32>
     requires { Sourced problem.now schema }
-    ensures { result ≡ lowest (link_strays (problem_in problem.now) (meaning source.now)) (length (problem_in problem.now).source_links) }
+    ensures { result ≡ lowest (link_strays (problem_in problem.now) (R.meaning source.now)) (length (problem_in problem.now).source_links) }
 {
     let links = schema.links as u32;
     for link in 0..links {

@@ -32,7 +32,7 @@ pub(crate) fn clear(out: &mut [u32], at: usize, n: usize)
 // Puts where a link leads from each of the first n records.
 fn put_link<R: Register>(out: &mut [u32], at: usize, source: &R, link: u32, n: u32)
     requires { at + n ≤ length out.old }
-    ensures { out.new ≡ spliced at (upto (lead (meaning source.now) link) n) out.old }
+    ensures { out.new ≡ spliced at (upto (lead (R.meaning source.now) link) n) out.old }
 {
     for r in 0..n {
         out[at + r as usize] = source.follow(link, r).unwrap_or(0);
@@ -48,8 +48,8 @@ pub(crate) fn put_links<R: Register>(
     source: &R,
 )
     requires sourced { Sourced problem.now schema }
-    requires links_in_bounds { at + sum (leaving (problem_in problem.now) (meaning source.now).count) schema.links ≤ length out.old }
-    ensures { out.new ≡ spliced at (lead_words (problem_in problem.now) (meaning source.now) schema.links) out.old }
+    requires links_in_bounds { at + sum (leaving (problem_in problem.now) (R.meaning source.now).count) schema.links ≤ length out.old }
+    ensures { out.new ≡ spliced at (lead_words (problem_in problem.now) (R.meaning source.now) schema.links) out.old }
 {
     let mut next = at;
     for link in 0..schema.links {

@@ -39,7 +39,7 @@ fn entries(room: usize, links: usize) -> usize
 
 // The tests in their order; nothing is written.
 fn plan<R: Register>(work: usize, problem: &[u32], source: &R) -> Result<Loading, LoadFault>
-    ensures { Plans work problem.now (meaning source.now) result }
+    ensures { Plans work problem.now (R.meaning source.now) result }
 {
     let found = read_problem(problem)?;
     let schema = found.source;
@@ -80,7 +80,7 @@ pub fn load<R: Register>(
     problem: &[u32],
     source: &R,
 ) -> Result<Loading, LoadFault>
-    ensures { Takes words.old problem.now (meaning source.now) result words.new }
+    ensures { Takes words.old problem.now (R.meaning source.now) result words.new }
 {
     let loading = plan(words.len(), problem, source)?;
     put_words(words, problem);

@@ -20,9 +20,9 @@ pub struct Stacked {
 pub(crate) fn stack<R: Register>(source: &R, kinds: u32, lands: usize) -> Stacked
     requires { (kinds ≤ 32) × (lands ≤ 268435456) }
     ensures same { result.source.kinds ≡ kinds }
-    ensures counts { take result.source.kinds result.source.counts ≡ upto (meaning source.now).count result.source.kinds }
-    ensures starts { take result.source.kinds result.source.starts ≡ upto (λ k. lands + sum (meaning source.now).count k) result.source.kinds }
-    ensures behind { result.next ≡ lands + sum (meaning source.now).count result.source.kinds }
+    ensures counts { take result.source.kinds result.source.counts ≡ upto (R.meaning source.now).count result.source.kinds }
+    ensures starts { take result.source.kinds result.source.starts ≡ upto (λ k. lands + sum (R.meaning source.now).count k) result.source.kinds }
+    ensures behind { result.next ≡ lands + sum (R.meaning source.now).count result.source.kinds }
 {
     let mut counts = [0; 32];
     let mut starts = [0; 32];
@@ -57,8 +57,8 @@ pub(crate) fn place_leads<R: Register>(
     start: usize,
 ) -> LeadPlaces
     requires { (Sourced problem.now schema) × (start ≤ 268439551) }
-    ensures places { take schema.links result.places ≡ upto (λ i. start + sum (leaving (problem_in problem.now) (meaning source.now).count) i) schema.links }
-    ensures behind { result.next ≡ start + sum (leaving (problem_in problem.now) (meaning source.now).count) schema.links }
+    ensures places { take schema.links result.places ≡ upto (λ i. start + sum (leaving (problem_in problem.now) (R.meaning source.now).count) i) schema.links }
+    ensures behind { result.next ≡ start + sum (leaving (problem_in problem.now) (R.meaning source.now).count) schema.links }
 {
     let mut places = [0; 64];
     let mut next = start;

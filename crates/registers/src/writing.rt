@@ -43,9 +43,9 @@ impl From<WriteFault> for Fault {
 // Writes a register as a register file without landings; tells how many words.
 // A refusal changes nothing, and what stands behind the words is kept.
 pub fn write<R: Register>(register: &R, out: &mut [u32]) -> Result<usize, WriteFault>
-    ensures answer { (result, out.new) ≡ written (meaning register.now) out.old }
-    ensures back { ReadBack (meaning register.now) result out.new }
-    ensures again { SameWords (meaning register.now) result out.new }
+    ensures answer { (result, out.new) ≡ written (R.meaning register.now) out.old }
+    ensures back { ReadBack (R.meaning register.now) result out.new }
+    ensures again { SameWords (R.meaning register.now) result out.new }
 {
     if is_large(register) {
         return Err(WriteFault::Large);

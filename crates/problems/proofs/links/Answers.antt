@@ -8,15 +8,15 @@ use Rattle.problems.proofs.links.Goals as goal
 pub loop-at-init : goal.loop-at-init
 loop-at-init c = (lit≤ tt, plus_none _)
 
-pub returns-in-err-at : goal.returns-in-err-at
-returns-in-err-at c =
-    let p = err_from_is_err_and c.from-residual.result c.from-residual.ensures.1 in
-    let e = sym c.link.ensures ∙ c.in-err-at.was in
+pub returns-in_err-at : goal.returns-in_err-at
+returns-in_err-at c =
+    let p = err_from_is_err_and c.from_residual.result c.from_residual.ensures.1 in
+    let e = sym c.link.ensures ∙ c.in_err-at.was in
     rw (p.1, p.2) (sym (count_stop _ _ _ _ _ _ _ (sym c.loop-at-test.ensures) e) ∙ c.loop-at.invariant.1)
 
 pub loop-at-preserved : goal.loop-at-preserved
 loop-at-preserved c =
-    let e = sym c.link.ensures ∙ c.in-ok-at.was in
+    let e = sym c.link.ensures ∙ c.in_ok-at.was in
     let x = behind_ok one_word _ _ _ e in
     let w : 0 < 64 - c.loop-at.count = (link_told c.args.kinds c.args.words.now (64 - c.loop-at.count) c.loop-at.at x.0 x.1).roomy in
     (omega arith, count_turn _ _ _ _ _ _ _ (sym c.loop-at-test.ensures) (omega arith) e ∙ c.loop-at.invariant.1)

@@ -5,15 +5,15 @@ use Rattle.words.specs.Words.{worded}
 use Rattle.words.proofs.Items.{run_turn, run_stop, run_done}
 use Rattle.register_files.proofs.counts.Goals as goal
 
-pub returns-in-err-word : goal.returns-in-err-word
-returns-in-err-word c =
-    let p = err_from_is_err_and c.from-residual.result c.from-residual.ensures.1 in
-    let e = ap worded (sym c.word.ensures ∙ c.in-err-word.was) in
+pub returns-in_err-word : goal.returns-in_err-word
+returns-in_err-word c =
+    let p = err_from_is_err_and c.from_residual.result c.from_residual.ensures.1 in
+    let e = ap worded (sym c.word.ensures ∙ c.in_err-word.was) in
     rw (p.1, p.2) (sym (run_stop _ _ _ _ _ c.loop-k-test.true e) ∙ c.loop-k.invariant.1)
 
 pub loop-k-preserved : goal.loop-k-preserved
 loop-k-preserved c =
-    let e = ap worded (sym c.word.ensures ∙ c.in-ok-word.was) in
+    let e = ap worded (sym c.word.ensures ∙ c.in_ok-word.was) in
     let w : c.loop-k.next < length c.args.words.now = (count_told _ _ _ e).inside in
     (omega arith, run_turn _ _ _ _ _ c.loop-k-test.true e ∙ c.loop-k.invariant.1)
 

@@ -6,4 +6,4 @@ use Rattle.register_files.proofs.records.Given as goal
 abbrev pub invariant-loop-k : goal.invariant-loop-k
 invariant-loop-k l =
     (l.next ≤ length l.words)
-    × (ended one_word l.next (run (counted l.size l.words) (l.n - l.-k) l.next) ≡ ended one_word l.at (run (counted l.size l.words) l.n l.at))
+    × (ended one_word l.next (run (counted l.size l.words) (l.n - l._k) l.next) ≡ ended one_word l.at (run (counted l.size l.words) l.n l.at))

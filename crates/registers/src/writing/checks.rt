@@ -8,7 +8,7 @@ use crate::register::Register;
 
 // Whether a kind has more than 65,535 records.
 fn is_crowded<R: Register>(register: &R) -> bool
-    ensures { result ≡ crowded (meaning register.now) }
+    ensures { result ≡ crowded (R.meaning register.now) }
 {
     for kind in 0..register.kinds() {
         if register.count(kind) > 65535 {
@@ -20,8 +20,8 @@ fn is_crowded<R: Register>(register: &R) -> bool
 
 // Whether a register passes the limits of a register file.
 pub(crate) fn is_large<R: Register>(register: &R) -> bool
-    ensures answer { result ≡ large (meaning register.now) }
-    ensures lawful { Lawful (meaning register.now) }
+    ensures answer { result ≡ large (R.meaning register.now) }
+    ensures lawful { Lawful (R.meaning register.now) }
 {
     register.kinds() > 32 || register.links() > 64 || is_crowded(register)
 }
@@ -38,7 +38,7 @@ fn astray(size: u32, answer: Option<u32>) -> bool
 
 // Whether a record of one kind does not lead to one of another.
 fn strays<R: Register>(register: &R, link: u32, from: u32, to: u32) -> bool
-    ensures { result ≡ strays_of (meaning register.now) link from to }
+    ensures { result ≡ strays_of (R.meaning register.now) link from to }
 {
     let size = register.count(to);
     for r in 0..register.count(from) {
@@ -51,7 +51,7 @@ fn strays<R: Register>(register: &R, link: u32, from: u32, to: u32) -> bool
 
 // Whether a link cannot be written.
 fn is_broken<R: Register>(register: &R, link: u32) -> bool
-    ensures { result ≡ broken (meaning register.now) link }
+    ensures { result ≡ broken (R.meaning register.now) link }
 {
     let kinds = register.kinds();
     match register.ends(link) {
@@ -62,7 +62,7 @@ fn is_broken<R: Register>(register: &R, link: u32) -> bool
 
 // The lowest link that cannot be written.
 pub(crate) fn lowest_broken<R: Register>(register: &R) -> Option<u32>
-    ensures { result ≡ lowest (broken (meaning register.now)) (meaning register.now).links }
+    ensures { result ≡ lowest (broken (R.meaning register.now)) (R.meaning register.now).links }
 {
     let links = register.links();
     for link in 0..links {
@@ -75,7 +75,7 @@ pub(crate) fn lowest_broken<R: Register>(register: &R) -> Option<u32>
 
 // How many words a link takes.
 fn link_size<R: Register>(register: &R, link: u32) -> usize
-    ensures words { result ≡ length (row_words (meaning register.now) link) }
+    ensures words { result ≡ length (row_words (R.meaning register.now) link) }
     ensures fits { result ≤ 4294967296 }
 {
     match register.ends(link) {
@@ -86,8 +86,8 @@ fn link_size<R: Register>(register: &R, link: u32) -> usize
 
 // How many words the links take.
 fn links_size<R: Register>(register: &R) -> usize
-    requires { (meaning register.now).links ≤ 64 }
-    ensures words { result ≡ length (links_words (meaning register.now) (meaning register.now).links) }
+    requires { (R.meaning register.now).links ≤ 64 }
+    ensures words { result ≡ length (links_words (R.meaning register.now) (R.meaning register.now).links) }
     ensures fits { result ≤ 274877906944 }
 {
     let mut total = 0;
@@ -99,8 +99,8 @@ fn links_size<R: Register>(register: &R) -> usize
 
 // How many words a register takes.
 pub(crate) fn size<R: Register>(register: &R) -> usize
-    requires { (meaning register.now).links ≤ 64 }
-    ensures { result ≡ length (file_words (meaning register.now)) }
+    requires { (R.meaning register.now).links ≤ 64 }
+    ensures { result ≡ length (file_words (R.meaning register.now)) }
 {
     register.kinds() as usize + links_size(register) + 2
 }

@@ -17,8 +17,8 @@ pub fn put(out: &mut [u32], at: usize, tag: Tag, fields: u32)
 
 // Puts the count of each kind behind the first word.
 fn put_counts<R: Register>(register: &R, out: &mut [u32])
-    requires { (Writable (meaning register.now)) × ((meaning register.now).kinds < length out.old) }
-    ensures { out.new ≡ spliced 1 (count_words (meaning register.now) (meaning register.now).kinds) out.old }
+    requires { (Writable (R.meaning register.now)) × ((R.meaning register.now).kinds < length out.old) }
+    ensures { out.new ≡ spliced 1 (count_words (R.meaning register.now) (R.meaning register.now).kinds) out.old }
 {
     for kind in 0..register.kinds() {
         put(out, 1 + kind as usize, Tag::Count, register.count(kind));
@@ -27,8 +27,8 @@ fn put_counts<R: Register>(register: &R, out: &mut [u32])
 
 // Puts where each of the first n records leads.
 fn put_records<R: Register>(register: &R, link: u32, n: u32, out: &mut [u32], at: usize)
-    requires { (LeadsFit (meaning register.now) link n) × (at + n ≤ length out.old) }
-    ensures { out.new ≡ spliced at (record_words (meaning register.now) link n) out.old }
+    requires { (LeadsFit (R.meaning register.now) link n) × (at + n ≤ length out.old) }
+    ensures { out.new ≡ spliced at (record_words (R.meaning register.now) link n) out.old }
 {
     for r in 0..n {
         let led = register.follow(link, r).unwrap_or(0);
@@ -38,9 +38,9 @@ fn put_records<R: Register>(register: &R, link: u32, n: u32, out: &mut [u32], at
 
 // Puts a link and its records; tells the place behind them.
 fn put_link<R: Register>(register: &R, link: u32, out: &mut [u32], at: usize) -> usize
-    requires { (Writable (meaning register.now)) × ((link < (meaning register.now).links) × (at + length (row_words (meaning register.now) link) ≤ length out.old)) }
-    ensures next { result ≡ at + length (row_words (meaning register.now) link) }
-    ensures words { out.new ≡ spliced at (row_words (meaning register.now) link) out.old }
+    requires { (Writable (R.meaning register.now)) × ((link < (R.meaning register.now).links) × (at + length (row_words (R.meaning register.now) link) ≤ length out.old)) }
+    ensures next { result ≡ at + length (row_words (R.meaning register.now) link) }
+    ensures words { out.new ≡ spliced at (row_words (R.meaning register.now) link) out.old }
 {
     let Some((from, to)) = register.ends(link) else {
         // Only a broken link has no ends.
@@ -54,9 +54,9 @@ fn put_link<R: Register>(register: &R, link: u32, out: &mut [u32], at: usize) ->
 
 // Puts the links; tells the place behind them.
 fn put_links<R: Register>(register: &R, out: &mut [u32], at: usize) -> usize
-    requires { (Writable (meaning register.now)) × (at + length (links_words (meaning register.now) (meaning register.now).links) ≤ length out.old) }
-    ensures next { result ≡ at + length (links_words (meaning register.now) (meaning register.now).links) }
-    ensures words { out.new ≡ spliced at (links_words (meaning register.now) (meaning register.now).links) out.old }
+    requires { (Writable (R.meaning register.now)) × (at + length (links_words (R.meaning register.now) (R.meaning register.now).links) ≤ length out.old) }
+    ensures next { result ≡ at + length (links_words (R.meaning register.now) (R.meaning register.now).links) }
+    ensures words { out.new ≡ spliced at (links_words (R.meaning register.now) (R.meaning register.now).links) out.old }
 {
     let mut next = at;
     for link in 0..register.links() {
@@ -67,9 +67,9 @@ fn put_links<R: Register>(register: &R, out: &mut [u32], at: usize) -> usize
 
 // Puts the whole file at the front; tells how many words.
 pub(crate) fn put_file<R: Register>(register: &R, out: &mut [u32]) -> usize
-    requires { (Writable (meaning register.now)) × (length (file_words (meaning register.now)) ≤ length out.old) }
-    ensures size { result ≡ length (file_words (meaning register.now)) }
-    ensures words { out.new ≡ file_words (meaning register.now) ++ drop (length (file_words (meaning register.now))) out.old }
+    requires { (Writable (R.meaning register.now)) × (length (file_words (R.meaning register.now)) ≤ length out.old) }
+    ensures size { result ≡ length (file_words (R.meaning register.now)) }
+    ensures words { out.new ≡ file_words (R.meaning register.now) ++ drop (length (file_words (R.meaning register.now))) out.old }
 {
     let kinds = register.kinds();
     put(out, 0, Tag::Register, kinds);

@@ -72,8 +72,8 @@ impl<'a> Table<'a> {
 impl Table<'_> {
     // Takes a problem and a source into the work words. A refusal changes nothing.
     pub fn load<R: Register>(&mut self, problem: &[u32], source: &R) -> Result<(), LoadFault>
-        ensures after { (view_of self.new, result) ≡ loading problem.now (meaning source.now) (view_of self.old) }
-        ensures origin { result ≡ Ok tt → origin_of self.new ≡ (problem.now, meaning source.now) }
+        ensures after { (view_of self.new, result) ≡ loading problem.now (R.meaning source.now) (view_of self.old) }
+        ensures origin { result ≡ Ok tt → origin_of self.new ≡ (problem.now, R.meaning source.now) }
         ensures words { (e : LoadFault) → result ≡ Err e → self.new.rows.words.now ≡ self.old.rows.words.now }
         ensures promise { KeepsPromise self.new }
     {

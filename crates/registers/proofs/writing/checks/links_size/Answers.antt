@@ -8,5 +8,5 @@ loop-link-init g c = (sym (ap length (links_none _)), omega arith)
 pub loop-link-preserved : goal.loop-link-preserved
 loop-link-preserved g c = let n = links_length (g.R.Register.meaning c.args.register.now) c.loop-link.link in (omega arith, omega arith)
 
-pub overflow-add-total : goal.overflow-add-total
-overflow-add-total g c = omega arith
+pub overflow_add-total : goal.overflow_add-total
+overflow_add-total g c = omega arith

@@ -8,7 +8,7 @@ unfolding lowest
 loop-link-init g c = refl
 
 pub loop-link-preserved : goal.loop-link-preserved
-loop-link-preserved g c = lowest_more _ _ c.loop-link.invariant (sym c.if-is-broken.ensures)
+loop-link-preserved g c = lowest_more _ _ c.loop-link.invariant (sym c.if-is_broken.ensures)
 
-pub returns-then-is-broken : goal.returns-then-is-broken
-returns-then-is-broken g c = lowest_found _ c.loop-link.link _ (omega arith) c.loop-link.invariant (sym c.if-is-broken.ensures)
+pub returns-then-is_broken : goal.returns-then-is_broken
+returns-then-is_broken g c = lowest_found _ c.loop-link.link _ (omega arith) c.loop-link.invariant (sym c.if-is_broken.ensures)

@@ -10,8 +10,8 @@ put-requires g c =
     let s = ends_fit m c.requires.0 c.args.link c.in-Some.from c.in-Some.to c.requires.1.0 c.in-Some.ensures in
     (omega arith, omega (arith, s.0, s.1))
 
-pub put-records-requires : goal.put-records-requires
-put-records-requires g c =
+pub put_records-requires : goal.put_records-requires
+put_records-requires g c =
     let m = g.R.Register.meaning c.args.register.now in
     let n = row_length m c.args.link c.in-Some.from c.in-Some.to c.in-Some.ensures in
     (λ r h. leads_fit m c.requires.0 c.args.link c.in-Some.from c.in-Some.to c.requires.1.0 c.in-Some.ensures r (omega arith), omega arith)
@@ -22,5 +22,5 @@ returns g c =
     let n = row_length m c.args.link c.in-Some.from c.in-Some.to c.in-Some.ensures in
     record {
       next = omega arith;
-      words = link_put m c.args.link c.args.at c.in-Some.from c.in-Some.to _ _ _ _ (omega arith) c.in-Some.ensures c.count-n.ensures c.put.ensures c.put-records.ensures;
+      words = link_put m c.args.link c.args.at c.in-Some.from c.in-Some.to _ _ _ _ (omega arith) c.in-Some.ensures c.count-n.ensures c.put.ensures c.put_records.ensures;
     }

@@ -7,8 +7,8 @@ loop-link-init g c =
     let m = g.R.Register.meaning c.args.register.now in
     (omega (arith, ap length (links_none m)), links_start m c.args.at c.args.out.now)
 
-pub put-link-next-requires : goal.put-link-next-requires
-put-link-next-requires g c =
+pub put_link-next-requires : goal.put_link-next-requires
+put_link-next-requires g c =
     let m = g.R.Register.meaning c.args.register.now in
     let n = links_room m c.loop-link.link m.links (omega arith) in
     (c.requires.0, (omega arith, omega arith))
@@ -17,4 +17,4 @@ pub loop-link-preserved : goal.loop-link-preserved
 loop-link-preserved g c =
     let m = g.R.Register.meaning c.args.register.now in
     let n = links_length m c.loop-link.link in
-    (omega arith, links_more m c.args.at c.loop-link.next c.loop-link.link _ _ _ (omega arith) c.loop-link.invariant.0 c.loop-link.invariant.1 c.put-link-next.ensures.words)
+    (omega arith, links_more m c.args.at c.loop-link.next c.loop-link.link _ _ _ (omega arith) c.loop-link.invariant.0 c.loop-link.invariant.1 c.put_link-next.ensures.words)

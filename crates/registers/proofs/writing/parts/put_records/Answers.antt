@@ -8,9 +8,9 @@ loop-r-init g c = records_none _ _ _ _
 
 pub loop-r-preserved : goal.loop-r-preserved
 loop-r-preserved g c =
-    records_more _ c.args.link _ c.loop-r.r _ _ _ _ (omega arith) (c.unwrap-or-led.ensures ∙ ap (λ o. unwrap_or o 0) c.follow.ensures) c.loop-r.invariant c.put.ensures
+    records_more _ c.args.link _ c.loop-r.r _ _ _ _ (omega arith) (c.unwrap_or-led.ensures ∙ ap (λ o. unwrap_or o 0) c.follow.ensures) c.loop-r.invariant c.put.ensures
 
 pub put-requires : goal.put-requires
 put-requires g c =
-    let e : c.unwrap-or-led.result ≡ lead (g.R.Register.meaning c.args.register.now) c.args.link c.loop-r.r = c.unwrap-or-led.ensures ∙ ap (λ o. unwrap_or o 0) c.follow.ensures in
+    let e : c.unwrap_or-led.result ≡ lead (g.R.Register.meaning c.args.register.now) c.args.link c.loop-r.r = c.unwrap_or-led.ensures ∙ ap (λ o. unwrap_or o 0) c.follow.ensures in
     (omega arith, omega (arith, c.requires.0 c.loop-r.r (omega arith)))

@@ -5,7 +5,7 @@ use Rattle.registers.proofs.held.calls.HeldRegister.count.Goals as goal
 pub returns-then-kind-self : goal.returns-then-kind-self
 returns-then-kind-self c =
     let h = c.args.self.now in
-    c.fields-at.ensures ∙ count_is h.words.now h.kinds h.links h.places h.kinded h.linked h.placed c.args.kind c.if-kind-self.true
+    c.fields_at.ensures ∙ count_is h.words.now h.kinds h.links h.places h.kinded h.linked h.placed c.args.kind c.if-kind-self.true
 
 pub returns-else-kind-self : goal.returns-else-kind-self
 returns-else-kind-self c =
