@@ -4,7 +4,7 @@ use Rattle.rows.proofs.Faults.{refused, done, define_refused, define_done}
 use Rattle.rows.proofs.Rows.define.Goals as goal
 
 pub born-requires : goal.born-requires
-born-requires c = let g = c.in-None.ensures.room refl in (c.requires, g.0, g.1)
+born-requires c = let g = c.in-None.ensures.room refl in record { tidy = c.requires; has = g.0; given_lt_capacity = g.1 }
 
 pub returns-in-Some : goal.returns-in-Some
 returns-in-Some c = record {

@@ -8,8 +8,8 @@ use Rattle.rows.proofs.Rows.living.Goals.{then-lives, else-lives}
 pub loop-e-init : goal.loop-e-init
 loop-e-init c = rank_none (view c.args.self.now).forward
 
-pub overflow-add-k : goal.overflow-add-k
-overflow-add-k c = let h = rank_small (view c.args.self.now).forward c.loop-e.e in let i = c.loop-e.invariant in search rules
+pub overflow_add-k : goal.overflow_add-k
+overflow_add-k c = let h = rank_small (view c.args.self.now).forward c.loop-e.e in let i = c.loop-e.invariant in search rules
 
 pub loop-e-preserved : goal.loop-e-preserved
 loop-e-preserved c = elim c.if-lives.branch [

@@ -7,8 +7,8 @@ pub loop-f-preserved : goal.loop-f-preserved
 loop-f-preserved c =
     let s = view c.args.self.now in
     let i = c.loop-f.invariant in
-    let h = c.requires.0.lower c.loop-f.x in
-    (omega arith, c.forward-f-in-loop-f.ensures, rw i.1 (end_forward s.forward c.requires.0.lower c.loop-f.x ∙ i.2))
+    let h = c.requires.tidy.lower c.loop-f.x in
+    (omega arith, c.forward-f-in-loop-f.ensures, rw i.1 (end_forward s.forward c.requires.tidy.lower c.loop-f.x ∙ i.2))
 
 pub returns : goal.returns
 returns c = let i = c.loop-f.invariant in

@@ -9,17 +9,17 @@ use Rattle.rows.proofs.Rows.number.Goals as goal
 pub loop-e-init : goal.loop-e-init
 loop-e-init c = (goes_none (raw c.args.self.now) (λ s. s) c.requires refl, (λ e h. absurd (omega arith)), sym (rank_none (view c.args.self.now).forward))
 
-pub number-one-k-requires : goal.number-one-k-requires
-number-one-k-requires c =
+pub number_one-k-requires : goal.number_one-k-requires
+number_one-k-requires c =
     let i = c.loop-e.invariant in
     let n = ap (λ (s : State). s.given) i.0.state in
-    (i.0.still, omega arith, i.2 ∙ ap (λ (s : State). rank s.forward c.loop-e.e) (sym i.0.state), i.1)
+    record { still = i.0.still; e_lt_given = omega arith; k_value = i.2 ∙ ap (λ (s : State). rank s.forward c.loop-e.e) (sym i.0.state); ranked_2 = i.1 }
 
 pub loop-e-preserved : goal.loop-e-preserved
 loop-e-preserved c =
     let i = c.loop-e.invariant in
-    let o = c.number-one-k.ensures in (
-      goes_then (raw c.args.self.now) (raw c.loop-e.self) (raw c.number-one-k.new.self) (λ s. s) (λ s. s) (λ s. s) i.0 o.goes refl,
+    let o = c.number_one-k.ensures in (
+      goes_then (raw c.args.self.now) (raw c.loop-e.self) (raw c.number_one-k.new.self) (λ s. s) (λ s. s) (λ s. s) i.0 o.goes refl,
       o.ranked,
       o.is ∙ ap (λ (s : State). rank s.forward (c.loop-e.e + 1)) i.0.state,
     )

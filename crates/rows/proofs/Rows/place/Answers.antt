@@ -3,10 +3,10 @@ use Rattle.rows.specs.View.{raw, slot}
 use Rattle.rows.proofs.Places.{landing_placed}
 use Rattle.rows.proofs.Rows.place.Goals as goal
 
-pub overflow-add-result : goal.overflow-add-result
-overflow-add-result c = let h = landing_placed (raw c.args.self.now) c.requires.0 (slot c.args.t) _ _ (ap slot c.in-Landing.is) c.requires.1 in search rules
+pub overflow_add-result : goal.overflow_add-result
+overflow_add-result c = let h = landing_placed (raw c.args.self.now) c.requires.fits_2 (slot c.args.t) _ _ (ap slot c.in-Landing.is) c.requires.has in search rules
 
 pub returns-in-Landing : goal.returns-in-Landing
 returns-in-Landing c =
-    let h = landing_placed (raw c.args.self.now) c.requires.0 (slot c.args.t) _ _ (ap slot c.in-Landing.is) c.requires.1 in
+    let h = landing_placed (raw c.args.self.now) c.requires.fits_2 (slot c.args.t) _ _ (ap slot c.in-Landing.is) c.requires.has in
     record { is = h.0; fits = h.1 }

@@ -8,21 +8,21 @@ use Rattle.rows.proofs.SweepSteps.{goes_none, goes_then, goes_to}
 use Rattle.rows.proofs.Rows.rename_cells.Goals as goal
 
 pub loop-e-init : goal.loop-e-init
-loop-e-init c = (goes_none (raw c.args.self.now) (renames (in_rows 0 c.args.self.now.links)) c.requires.0 (renames_none (view c.args.self.now) _ (none_in_rows c.args.self.now.links)), c.requires.1)
+loop-e-init c = (goes_none (raw c.args.self.now) (renames (in_rows 0 c.args.self.now.links)) c.requires.still (renames_none (view c.args.self.now) _ (none_in_rows c.args.self.now.links)), c.requires.ranked_2)
 
-pub rename-row-requires : goal.rename-row-requires
-rename-row-requires c =
+pub rename_row-requires : goal.rename_row-requires
+rename_row-requires c =
     let i = c.loop-e.invariant in
     let n = ap (λ (s : State). s.given) i.0.state in
-    (i.0.still, i.1, omega arith)
+    record { still = i.0.still; ranked_2 = i.1; e_lt_given = omega arith }
 
 pub loop-e-preserved : goal.loop-e-preserved
 loop-e-preserved c =
     let i = c.loop-e.invariant in
-    let o = c.rename-row.ensures in
+    let o = c.rename_row.ensures in
     let l = ap (λ (h : Shape). h.links) i.0.same.shape in
-    let g = goes_to (raw c.loop-e.self) (raw c.rename-row.new.self) (λ n. renames (in_row c.loop-e.e n)) _ c.args.self.now.links l o.goes in (
-      goes_then (raw c.args.self.now) (raw c.loop-e.self) (raw c.rename-row.new.self) _ _ _ i.0 g
+    let g = goes_to (raw c.loop-e.self) (raw c.rename_row.new.self) (λ n. renames (in_row c.loop-e.e n)) _ c.args.self.now.links l o.goes in (
+      goes_then (raw c.args.self.now) (raw c.loop-e.self) (raw c.rename_row.new.self) _ _ _ i.0 g
           (renames_more (view c.args.self.now) _ (in_row c.loop-e.e c.args.self.now.links) _ (rows_more c.loop-e.e c.args.self.now.links)),
       o.ranked,
     )

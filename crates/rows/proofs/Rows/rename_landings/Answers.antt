@@ -8,22 +8,22 @@ use Rattle.rows.proofs.Rows.rename_landings.Goals as goal
 
 pub loop-k-init : goal.loop-k-init
 loop-k-init c = let h = (raw c.args.self.now).shape in
-    (goes_none (raw c.args.self.now) (renames (in_kinds h 0)) c.requires.0 (renames_none (view c.args.self.now) _ (none_in_kinds h)), c.requires.1)
+    (goes_none (raw c.args.self.now) (renames (in_kinds h 0)) c.requires.still (renames_none (view c.args.self.now) _ (none_in_kinds h)), c.requires.ranked)
 
-pub rename-kind-requires : goal.rename-kind-requires
-rename-kind-requires c =
+pub rename_kind-requires : goal.rename_kind-requires
+rename_kind-requires c =
     let i = c.loop-k.invariant in
     let n = ap (λ (h : Shape). h.kinds) i.0.same.shape in
-    (i.0.still, i.1, omega arith)
+    record { still = i.0.still; ranked_2 = i.1; k_lt_kinds = omega arith }
 
 pub loop-k-preserved : goal.loop-k-preserved
 loop-k-preserved c =
     let i = c.loop-k.invariant in
-    let o = c.rename-kind.ensures in
+    let o = c.rename_kind.ensures in
     let h = (raw c.args.self.now).shape in
     let l = ap (λ (h : Shape). count h c.loop-k.k) i.0.same.shape in
-    let g = goes_to (raw c.loop-k.self) (raw c.rename-kind.new.self) (λ n. renames (in_kind c.loop-k.k n)) _ (count h c.loop-k.k) l o.goes in (
-      goes_then (raw c.args.self.now) (raw c.loop-k.self) (raw c.rename-kind.new.self) _ _ _ i.0 g
+    let g = goes_to (raw c.loop-k.self) (raw c.rename_kind.new.self) (λ n. renames (in_kind c.loop-k.k n)) _ (count h c.loop-k.k) l o.goes in (
+      goes_then (raw c.args.self.now) (raw c.loop-k.self) (raw c.rename_kind.new.self) _ _ _ i.0 g
           (renames_more (view c.args.self.now) _ (in_kind c.loop-k.k (count h c.loop-k.k)) _ (kinds_more h c.loop-k.k)),
       o.ranked,
     )

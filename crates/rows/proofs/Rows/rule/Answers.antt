@@ -7,4 +7,4 @@ use Rattle.rows.proofs.Rows.rule.Goals as goal
 
 pub returns : goal.returns
 returns c L st =
-    ap linked c.parts-in.ensures ∙ rule_stands L (raw c.args.self.now) c.args.found.now st c.args.i (shown_token c.rule_at.result) c.rule_at.ensures.known
+    ap linked c.parts_in.ensures ∙ rule_stands L (raw c.args.self.now) c.args.found.now st c.args.i (shown_token c.rule_at.result) c.rule_at.ensures.known

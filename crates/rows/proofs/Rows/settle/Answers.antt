@@ -6,14 +6,14 @@ use Rattle.rows.proofs.Rows.settle.Goals as goal
 
 pub replace-requires : goal.replace-requires
 replace-requires c =
-    (c.requires.0, omega (arith, c.first-v.ensures), (end_is (view c.args.self.now) c.requires.0.lower c.first-v.result c.living-end-u.result c.living-end-u.ensures (omega (arith, c.first-v.ensures))).0)
+    record { tidy = c.requires.tidy; v_lt_given = omega (arith, c.first-v.ensures); u_lt_given = (end_is (view c.args.self.now) c.requires.tidy.lower c.first-v.result c.living_end-u.result c.living_end-u.ensures (omega (arith, c.first-v.ensures))).0 }
 
 pub drain-requires : goal.drain-requires
-drain-requires c = let n = ap (λ (s : State). s.given) c.replace.ensures.state in (c.replace.ensures.tidy, omega (arith, c.first-v.ensures))
+drain-requires c = let n = ap (λ (s : State). s.given) c.replace.ensures.state in record { tidy = c.replace.ensures.tidy; v_lt_given = omega (arith, c.first-v.ensures) }
 
 pub pop-requires : goal.pop-requires
-pop-requires c = (c.drain.ensures.tidy, still_waits (raw c.args.self.now) (raw c.replace.new.self) _ c.first-v.result c.living-end-u.result c.replace.ensures c.drain.ensures c.requires.1)
+pop-requires c = record { tidy = c.drain.ensures.tidy; waits_nonzero = still_waits (raw c.args.self.now) (raw c.replace.new.self) _ c.first-v.result c.living_end-u.result c.replace.ensures c.drain.ensures c.requires.waits_nonzero }
 
 pub returns : goal.returns
-returns c = becomes_settled (raw c.args.self.now) (raw c.replace.new.self) (raw c.drain.new.self) c.first-v.result c.living-end-u.result c.replace.ensures c.drain.ensures c.requires.1 _ c.pop.ensures
-    c.first-v.ensures c.living-end-u.ensures
+returns c = becomes_settled (raw c.args.self.now) (raw c.replace.new.self) (raw c.drain.new.self) c.first-v.result c.living_end-u.result c.replace.ensures c.drain.ensures c.requires.waits_nonzero _ c.pop.ensures
+    c.first-v.ensures c.living_end-u.ensures

@@ -1,5 +1,5 @@
 use Rattle.std.proofs.Common.{rules}
 use Rattle.rows.proofs.problem.schema_ends.Goals as goal
 
-pub overflow-add-schema : goal.overflow-add-schema
-overflow-add-schema c = let h = c.requires c.args.l c.if-l-schema.false in search rules
+pub overflow_add-schema : goal.overflow_add-schema
+overflow_add-schema c = let h = c.requires c.args.l c.if-l-schema.false in search rules
