@@ -1,9 +1,9 @@
 -- Facts about slots, living ends and walks.
-use Rattle.std.proofs.Common.{◌≡◌, ℕ, zero, suc, ◌<◌, ◌≤◌, Bool, true, false, cond, ◌&&◌, eqb, ltb, ◌⊎◌, List, [], ◌∷◌, ◌++◌, Some, None, Option, sym, refl, ap, ◌∙◌, subst, inl, inr, arith}
+use Rattle.std.proofs.Common.{◌≡◌, ℕ, zero, suc, ◌≤◌, Bool, true, false, ◌⊎◌, Option, sym, refl, ◌∙◌, inl, inr, arith}
 use Rattle.std.proofs.lemmas.Bool.Decides.{nat_tests}
-use Rattle.std.proofs.lemmas.Bool.{cases_eq, cases_lt, cases_Bool, eqb-true, eqb-false, eq-eqb, ne_eqb, and_parts}
-use Rattle.machine.specs.State.{Slot, cell, landing, State, same, put}
-use Rattle.machine.specs.Merging.{chase, end}
+use Rattle.std.proofs.lemmas.Bool.{cases_eq}
+use Rattle.machine.specs.State.{Slot, cell, landing, same, put}
+use Rattle.machine.specs.Merging.{chase}
 
 -- slots
 pub same_true : (t u : Slot) → same t u ≡ true → t ≡ u

@@ -1,6 +1,6 @@
 -- The numbers given keep within the capacity, and the finished counts with them.
-use Rattle.std.proofs.Common.{◌≡◌, ℕ, zero, suc, ◌<◌, ◌≤◌, Bool, true, false, cond, ◌&&◌, eqb, ltb, ◌⊎◌, List, [], ◌∷◌, length, Some, None, Option, sym, refl, ap, ◌∙◌, subst, inl, inr, arith}
-use Rattle.std.proofs.lemmas.Bool.{cases_eq, cases_lt, ltb-true}
+use Rattle.std.proofs.Common.{◌≡◌, ℕ, ◌<◌, ◌≤◌, Bool, true, false, cond, ◌&&◌, eqb, ltb, List, [], ◌∷◌, length, Some, None, Option, sym, refl, subst, inl, inr, arith}
+use Rattle.std.proofs.lemmas.Bool.{cases_eq, ltb-true}
 use Rattle.words.specs.declared.faults.Refusal.{Refusal}
 use Rattle.words.specs.declared.faults.Refusal.TheVariants as refusal
 use Rattle.machine.specs.Loaded.{Loaded}
@@ -11,16 +11,16 @@ use Rattle.machine.specs.Settling.{settled}
 use Rattle.machine.specs.Sweeping.{swept}
 use Rattle.machine.specs.Calls.{land_fault, define_fault, rule_fault, link_fault, settle_fault, sweep_fault, Op, land, define, check_rule, check_link, settle, sweep, apply}
 use Rattle.machine.specs.Readings.{Accepted}
-use Rattle.machine.specs.Sound.{Sound, Kinds}
+use Rattle.machine.specs.Sound.{Kinds}
 use Rattle.machine.specs.Shift.{Todo, does, ends, carry_out, plan, next, step, Call, plain, stepping, call, calls, AllWithin}
 use Rattle.machine.specs.Sequence.{sequence}
-use Rattle.machine.specs.Finish.{tally, entry_in, count_of, Bounds, FinishBounds}
+use Rattle.machine.specs.Finish.{tally, entry_in, count_of, FinishBounds}
 use Rattle.machine.proofs.Wide.{Good}
 use Rattle.machine.proofs.Closed.{Closed, Before, closed_all}
 use Rattle.machine.proofs.Ranks.{rank_small}
 use Rattle.machine.proofs.Settle.{settled_moved}
 use Rattle.machine.proofs.Runs.{unless_cases, cond_some, cond_else, call_good, calls_good, calls_kinds, start_good, start_kinds}
-use Rattle.machine.proofs.Numbering.{Fine, fine_short, grown_fine}
+use Rattle.machine.proofs.Numbering.{fine_short, grown_fine}
 use Rattle.machine.proofs.Own.{Living}
 use Rattle.machine.proofs.Twins.{fine_each}
 use Rattle.machine.proofs.Entries.{tally_yes, tally_no, entry_each, entry_kind}

@@ -1,17 +1,14 @@
 -- Checks, landing and defining keep a table good.
-use Rattle.std.proofs.Common.{◌≡◌, ℕ, zero, suc, ◌<◌, ◌≤◌, Bool, true, false, cond, eqb, ltb, ◌⊎◌, List, [], ◌∷◌, length, Some, None, Option, sym, refl, ap, ◌∙◌, subst, inl, inr, arith}
-use Rattle.std.proofs.lemmas.Bool.Decides.{nat_tests}
-use Rattle.std.proofs.lemmas.Bool.{cases_Bool, eqb-true}
+use Rattle.std.proofs.Common.{◌≡◌, ℕ, zero, suc, ◌<◌, Bool, true, false, cond, eqb, List, [], ◌∷◌, length, Some, None, Option, sym, refl, ◌∙◌, subst, arith}
 use Rattle.machine.specs.Loaded.{Loaded}
 use Rattle.machine.specs.State.{Slot, cell, landing, State, on, hold, born}
 use Rattle.machine.specs.Merging.{merge}
 use Rattle.machine.specs.Walking.{Walked, ended, stopped, walk, walk_in}
-use Rattle.machine.specs.Checking.{Effect, closed, merges, fills, stuck, sides, effect, rule_effect, link_effect}
-use Rattle.machine.specs.Calls.{land_fault, define_fault, rule_fault, link_fault}
+use Rattle.machine.specs.Checking.{closed, merges, sides, effect, rule_effect, link_effect}
 use Rattle.machine.specs.Readings.{worth, along, Accepted, Joins}
-use Rattle.machine.specs.Sound.{Mem, InUse, Owner, Sound, Reach}
+use Rattle.machine.specs.Sound.{InUse, Owner, Sound, Reach}
 use Rattle.machine.proofs.Wide.{Receiver, Placing, Reading, Good}
-use Rattle.machine.proofs.Closed.{Closed, Before, closed_all, closed_reach}
+use Rattle.machine.proofs.Closed.{closed_all, closed_reach}
 use Rattle.machine.proofs.Merge.{merge_sound, merge_closed, merge_read, merge_given}
 use Rattle.machine.proofs.Fill.{fill_sound, fill_closed, fill_read, born_good}
 

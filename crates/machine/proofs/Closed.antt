@@ -1,11 +1,11 @@
 -- Predicates closed under a table, and the single reading that they give.
-use Rattle.std.proofs.Common.{◌≡◌, ℕ, ◌<◌, Bool, true, ltb, Some, None, Option, sym, refl, ap, ◌∙◌, subst}
+use Rattle.std.proofs.Common.{◌≡◌, ℕ, ◌<◌, ltb, Some, sym, refl, ap, ◌∙◌, subst}
 use Rattle.std.proofs.lemmas.Bool.{lt-ltb, ltb-true}
 use Rattle.machine.specs.Loaded.{Loaded}
 use Rattle.machine.specs.State.{Slot, cell, landing, State}
-use Rattle.machine.specs.Merging.{chase, end}
+use Rattle.machine.specs.Merging.{end}
 use Rattle.machine.specs.Readings.{OneReading}
-use Rattle.machine.specs.Sound.{Sound, Reach, by_landing, by_cell, down, up}
+use Rattle.machine.specs.Sound.{Reach, by_landing, by_cell, down, up}
 use Rattle.machine.proofs.Wide.{Receiver, Placing, Reading, Good}
 use Rattle.machine.proofs.Base.{chase_keeps, chase_back}
 

@@ -1,21 +1,20 @@
 -- The waiting list has room.
-use Rattle.std.proofs.Common.{◌≡◌, ℕ, zero, suc, ◌+◌, ◌<◌, ◌≤◌, Bool, true, false, cond, eqb, ltb, ◌⊎◌, List, [], ◌∷◌, ◌++◌, length, Some, None, Option, sym, refl, ap, ◌∙◌, subst, inl, inr, arith, length-append}
+use Rattle.std.proofs.Common.{ℕ, zero, suc, Bool, true, false, cond, eqb, List, [], ◌∷◌, inl, inr, arith}
 use Rattle.std.proofs.lemmas.Bool.{cases_eq}
 use Rattle.machine.specs.Loaded.{Loaded}
-use Rattle.machine.specs.State.{Slot, cell, landing, State, start, on, hold, born}
-use Rattle.machine.specs.Merging.{end, die, meet, merge}
+use Rattle.machine.specs.State.{Slot, cell, landing, State, start, born}
 use Rattle.machine.specs.Walking.{Walked, ended, stopped, walk, walk_in}
-use Rattle.machine.specs.Checking.{closed, merges, fills, stuck, sides, effect, rule_effect, link_effect}
-use Rattle.machine.specs.Settling.{rehold, take_over, pull, drain, tail, pop, settled_first, settled}
+use Rattle.machine.specs.Checking.{closed, merges, sides, effect, rule_effect, link_effect}
+use Rattle.machine.specs.Settling.{settled}
 use Rattle.machine.specs.Sweeping.{rank, swept}
 use Rattle.machine.specs.Calls.{land_fault, define_fault, rule_fault, link_fault, settle_fault, sweep_fault, Op, land, define, check_rule, check_link, settle, sweep, apply}
 use Rattle.machine.specs.Readings.{Accepted}
-use Rattle.machine.specs.Sound.{InUse, Sound}
+use Rattle.machine.specs.Sound.{Sound}
 use Rattle.machine.specs.Shift.{Room, AllRoom, Todo, does, ends, carry_out, plan, next, step, Call, plain, stepping, call, calls}
 use Rattle.machine.proofs.Wide.{Good}
-use Rattle.machine.proofs.Check.{on_cases, Valid, walk_valid, walk_in_valid, steps}
+use Rattle.machine.proofs.Check.{Valid, walk_valid, walk_in_valid, steps}
 use Rattle.machine.proofs.Ranks.{rank_live, rank_dead, rank_small, merge_room}
-use Rattle.machine.proofs.Settle.{Moved, settled_moved}
+use Rattle.machine.proofs.Settle.{settled_moved}
 use Rattle.machine.proofs.Runs.{unless_cases, rule_tests, link_tests, call_good, start_good}
 
 born_room : (k : ℕ) (t : Slot) (s : State) → Room s → Room (born k t s)

@@ -1,10 +1,10 @@
 -- Filling a slot, and new entries.
-use Rattle.std.proofs.Common.{◌≡◌, ℕ, zero, suc, ◌<◌, ◌≤◌, Bool, true, false, cond, eqb, ltb, ◌⊎◌, Some, None, Option, sym, refl, ap, ◌∙◌, subst, inl, inr, arith}
+use Rattle.std.proofs.Common.{◌≡◌, ℕ, suc, ◌<◌, true, cond, eqb, ◌⊎◌, Some, None, Option, sym, refl, ap, ◌∙◌, subst, inl, inr, arith}
 use Rattle.std.proofs.lemmas.Bool.{cases_eq, eq-eqb, ne_eqb, cond-true, cond-false}
 use Rattle.machine.specs.Loaded.{Loaded}
 use Rattle.machine.specs.State.{Slot, cell, landing, State, put, hold, born}
 use Rattle.machine.specs.Readings.{worth}
-use Rattle.machine.specs.Sound.{Mem, InUse, Owner, Sound, Reach}
+use Rattle.machine.specs.Sound.{InUse, Owner, Sound, Reach}
 use Rattle.machine.proofs.Wide.{Receiver, Placing, Reading, Good}
 use Rattle.machine.proofs.Base.{put_cases}
 use Rattle.machine.proofs.Closed.{Closed, Before, closed_all, closed_reach}

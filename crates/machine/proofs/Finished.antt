@@ -1,16 +1,15 @@
 -- A table where a step finds nothing to do is complete.
-use Rattle.std.proofs.Common.{◌≡◌, ℕ, zero, suc, ◌<◌, ◌≤◌, Bool, true, false, cond, not, ◌&&◌, eqb, ltb, ◌⊎◌, List, [], ◌∷◌, length, Some, None, Option, sym, refl, ap, ◌∙◌, subst, inl, inr, arith}
+use Rattle.std.proofs.Common.{◌≡◌, ℕ, zero, suc, ◌<◌, Bool, true, false, cond, not, ◌&&◌, eqb, List, [], ◌∷◌, length, Some, None, Option, sym, refl, ap, ◌∙◌, subst, inl, inr, arith}
 use Rattle.std.proofs.lemmas.Bool.{cases_eq, eq-eqb, eqb-true, and_from, and_parts}
 use Rattle.machine.specs.Loaded.{Loaded}
 use Rattle.machine.specs.State.{Slot, cell, landing, State, start, filled, waits}
 use Rattle.machine.specs.Walking.{Walked, ended, stopped, walk, walk_in}
-use Rattle.machine.specs.Checking.{Effect, closed, merges, fills, stuck, sides, rule_effect, link_effect}
+use Rattle.machine.specs.Checking.{Effect, closed, merges, sides, rule_effect, link_effect}
 use Rattle.machine.specs.Calls.{Op, land, define, check_rule, check_link, settle}
 use Rattle.machine.specs.Readings.{Accepted, Joins}
 use Rattle.machine.specs.Sound.{Mem, InUse, Sound, Kinds, content_kind}
 use Rattle.machine.specs.Shift.{or_else, lowest, acts, only_if, link_next, rule_next, land_next, define_next, next, calls}
 use Rattle.machine.specs.Complete.{Complete, CompleteWhenDone, Keeps}
-use Rattle.machine.proofs.Wide.{Good}
 use Rattle.machine.proofs.Fill.{some_none}
 use Rattle.machine.proofs.Runs.{none_waits, calls_good, calls_kinds, start_good, start_kinds}
 

@@ -1,15 +1,13 @@
 -- Merging: readings stay, and what is reached stays reached.
-use Rattle.std.proofs.Common.{◌≡◌, ℕ, zero, suc, ◌<◌, ◌≤◌, Bool, true, false, cond, eqb, ltb, ◌⊎◌, List, [], ◌∷◌, ◌++◌, Some, None, Option, sym, refl, ap, ◌∙◌, subst, inl, inr, arith}
-use Rattle.std.proofs.lemmas.Bool.Decides.{nat_tests}
+use Rattle.std.proofs.Common.{◌≡◌, ℕ, ◌<◌, ◌≤◌, Bool, true, false, cond, eqb, ltb, ◌⊎◌, List, [], ◌∷◌, ◌++◌, sym, refl, ap, ◌∙◌, subst, inl, inr, arith}
 use Rattle.std.proofs.lemmas.Bool.{cases_eq, ltb-true, ltb-false, eq-eqb, ne_eqb, cond-true, cond-false}
 use Rattle.machine.specs.Loaded.{Loaded}
 use Rattle.machine.specs.State.{Slot, cell, landing, State}
-use Rattle.machine.specs.Merging.{chase, end, die, meet, merge}
-use Rattle.machine.specs.Readings.{worth}
+use Rattle.machine.specs.Merging.{end, die, meet, merge}
 use Rattle.machine.specs.Sound.{Mem, InUse, Owner, Sound}
 use Rattle.machine.proofs.Wide.{Receiver, Placing, Reading}
 use Rattle.machine.proofs.Base.{chase_lives, chase_lower}
-use Rattle.machine.proofs.Closed.{Closed, Before, end_goes, end_comes, end_read}
+use Rattle.machine.proofs.Closed.{Closed, end_goes, end_comes, end_read}
 
 pub mem_front : (x : ℕ) (xs ys : List ℕ) → Mem x xs → Mem x (xs ++ ys)
 mem_front x [] ys m = elim m [ ]

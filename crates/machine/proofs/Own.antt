@@ -1,14 +1,12 @@
 -- A complete table is a receiver, with its landings as a placing; it reads itself by the living ends.
-use Rattle.std.proofs.Common.{◌≡◌, ℕ, zero, suc, ◌<◌, ◌≤◌, Bool, true, false, ◌&&◌, eqb, ltb, List, [], ◌∷◌, length, Some, None, Option, sym, refl, ap, ◌∙◌, subst, arith}
+use Rattle.std.proofs.Common.{◌≡◌, ℕ, ◌<◌, Bool, true, ◌&&◌, eqb, ltb, List, [], ◌∷◌, length, Some, None, Option, sym, refl, ap, ◌∙◌, subst, arith}
 use Rattle.std.proofs.lemmas.Bool.{eq-eqb, eqb-true, lt-ltb, ltb-true, and_from, and_parts}
 use Rattle.machine.specs.Loaded.{Loaded}
 use Rattle.machine.specs.State.{Slot, cell, landing, State, on, lives}
 use Rattle.machine.specs.Merging.{end}
-use Rattle.machine.specs.Walking.{Walked, ended, stopped, walk}
+use Rattle.machine.specs.Walking.{ended, stopped, walk}
 use Rattle.machine.specs.Readings.{Accepted, along, worth}
-use Rattle.machine.specs.Sound.{InUse, Sound, Kinds}
-use Rattle.machine.specs.Complete.{Complete, Keeps}
-use Rattle.machine.proofs.Wide.{Receiver, Placing, Reading, Good}
+use Rattle.machine.proofs.Wide.{Receiver, Placing, Reading}
 use Rattle.machine.proofs.Base.{chase_fix, chase_keeps, chase_lives, chase_lower, end_forward}
 use Rattle.machine.proofs.Sweep.{use_lives}
 use Rattle.machine.proofs.Finished.{complete_keeps}

@@ -1,9 +1,9 @@
 -- The number of the living, and that the waiting list has room after a merge.
-use Rattle.std.proofs.Common.{◌≡◌, ℕ, zero, suc, ◌+◌, ◌<◌, ◌≤◌, Bool, true, false, cond, eqb, ◌⊎◌, List, [], ◌∷◌, ◌++◌, length, sym, refl, ap, ◌∙◌, subst, inl, inr, arith, length-append}
+use Rattle.std.proofs.Common.{◌≡◌, ℕ, zero, suc, ◌<◌, ◌≤◌, eqb, [], ◌∷◌, sym, refl, ap, ◌∙◌, subst, inl, inr, arith, length-append}
 use Rattle.std.proofs.lemmas.Bool.{cases_eq, eq-eqb, ne_eqb, cond-true, cond-false}
 use Rattle.machine.specs.Loaded.{Loaded}
 use Rattle.machine.specs.State.{State}
-use Rattle.machine.specs.Merging.{end, die, meet, merge}
+use Rattle.machine.specs.Merging.{end, die, merge}
 use Rattle.machine.specs.Sweeping.{rank}
 use Rattle.machine.specs.Sound.{Sound}
 use Rattle.machine.specs.Shift.{Room}

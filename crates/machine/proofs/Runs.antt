@@ -1,18 +1,18 @@
 -- Every list of calls keeps a table good.
-use Rattle.std.proofs.Common.{◌≡◌, ℕ, zero, suc, ◌<◌, ◌≤◌, Bool, true, false, cond, ◌&&◌, eqb, ltb, ◌⊎◌, List, [], ◌∷◌, Some, None, Option, sym, refl, ap, ◌∙◌, subst, inl, inr, arith}
+use Rattle.std.proofs.Common.{◌≡◌, ℕ, ◌<◌, Bool, true, false, cond, ◌&&◌, eqb, ltb, List, [], ◌∷◌, Some, None, Option, refl, arith}
 use Rattle.std.proofs.lemmas.Bool.Decides.{nat_tests}
 use Rattle.words.specs.declared.faults.Refusal.{Refusal}
 use Rattle.words.specs.declared.faults.Refusal.TheVariants as refusal
 use Rattle.machine.specs.Loaded.{Loaded}
-use Rattle.machine.specs.State.{Slot, cell, landing, State, start, born, filled, waits, lives}
+use Rattle.machine.specs.State.{cell, landing, State, start, born, filled, waits, lives}
 use Rattle.machine.specs.Checking.{effect, rule_effect, link_effect}
 use Rattle.machine.specs.Settling.{settled}
 use Rattle.machine.specs.Sweeping.{swept}
 use Rattle.machine.specs.Calls.{land_fault, define_fault, rule_fault, link_fault, settle_fault, sweep_fault, unless, Op, land, define, check_rule, check_link, settle, sweep, apply}
 use Rattle.machine.specs.Readings.{Accepted, OneReading}
-use Rattle.machine.specs.Sound.{Mem, InUse, Owner, Sound, Reach, Kinds}
+use Rattle.machine.specs.Sound.{InUse, Kinds}
 use Rattle.machine.specs.Shift.{Todo, does, ends, carry_out, plan, next, step, Call, plain, stepping, call, calls, AllSound, AllReached, AllKinds}
-use Rattle.machine.proofs.Wide.{Receiver, Placing, Reading, Good}
+use Rattle.machine.proofs.Wide.{Good}
 use Rattle.machine.proofs.Closed.{one_reading}
 use Rattle.machine.proofs.Check.{rule_good, link_good, land_good, define_good}
 use Rattle.machine.proofs.Settle.{settled_good}

@@ -1,16 +1,15 @@
 -- Settling keeps a table good.
-use Rattle.std.proofs.Common.{◌≡◌, ℕ, zero, suc, ◌<◌, ◌≤◌, Bool, true, false, cond, eqb, ltb, ◌⊎◌, List, [], ◌∷◌, length, Some, None, Option, sym, refl, ap, ◌∙◌, subst, inl, inr, arith}
+use Rattle.std.proofs.Common.{◌≡◌, ℕ, zero, suc, ◌<◌, ◌≤◌, eqb, ◌⊎◌, List, [], ◌∷◌, length, Some, None, Option, sym, refl, ap, ◌∙◌, subst, inl, inr, arith}
 use Rattle.std.proofs.lemmas.Bool.{cases_eq, eq-eqb, ne_eqb, cond-true, cond-false}
 use Rattle.machine.specs.Loaded.{Loaded}
-use Rattle.machine.specs.State.{Slot, cell, landing, State, on, put, hold}
+use Rattle.machine.specs.State.{Slot, cell, landing, State, hold}
 use Rattle.machine.specs.Merging.{end, merge}
 use Rattle.machine.specs.Settling.{swap, rehold, take_over, pull, drain, tail, pop, settled_first, settled}
-use Rattle.machine.specs.Readings.{worth}
 use Rattle.machine.specs.Sound.{Mem, InUse, Owner, Sound, Reach}
 use Rattle.machine.proofs.Base.{put_cases}
 use Rattle.machine.proofs.Closed.{Closed, Before, closed_all, closed_reach, end_goes, end_comes, end_read}
-use Rattle.machine.proofs.Merge.{end_lives, end_below, end_in_use, merge_sound, merge_closed, merge_joins, merge_read, merge_given, merge_held, merge_dead, merge_front}
-use Rattle.machine.proofs.Fill.{some_same, some_none, put_held, put_here, put_there, hold_in_use, hold_owner, empty_sound, empty_read, fill_sound, fill_read, fill_closed, fill_fits}
+use Rattle.machine.proofs.Merge.{end_lives, end_in_use, merge_sound, merge_closed, merge_joins, merge_read, merge_given, merge_held, merge_dead, merge_front}
+use Rattle.machine.proofs.Fill.{some_same, some_none, put_held, put_here, put_there, hold_in_use, empty_sound, empty_read, fill_sound, fill_read, fill_closed, fill_fits}
 use Rattle.machine.proofs.Kept.{Kept, place, still, kept_none, kept_then, end_end, merge_one_end, merge_kept, fill_kept}
 use Rattle.machine.proofs.Check.{on_cases}
 use Rattle.machine.proofs.Ranks.{merge_room}

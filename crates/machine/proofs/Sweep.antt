@@ -1,6 +1,6 @@
 -- Sweeping keeps a table good.
-use Rattle.std.proofs.Common.{◌≡◌, ℕ, zero, suc, ◌<◌, ◌≤◌, Bool, true, false, cond, ◌&&◌, eqb, ltb, ◌⊎◌, List, [], ◌∷◌, Some, None, Option, sym, refl, ap, ◌∙◌, subst, inl, inr, arith}
-use Rattle.std.proofs.lemmas.Bool.{cases_eq, cases_lt, eq-eqb, ne_eqb, eqb-true, eqb-false, lt-ltb, ltb-true, cond-true, cond-false, and_parts, and_cases}
+use Rattle.std.proofs.Common.{◌≡◌, ℕ, zero, suc, ◌<◌, ◌≤◌, Bool, true, false, cond, ltb, ◌⊎◌, [], Some, None, Option, sym, refl, ap, ◌∙◌, subst, inl, inr, arith}
+use Rattle.std.proofs.lemmas.Bool.{cases_eq, cases_lt, eq-eqb, ne_eqb, lt-ltb, ltb-true, cond-true}
 use Rattle.machine.specs.Loaded.{Loaded}
 use Rattle.machine.specs.State.{Slot, cell, landing, State}
 use Rattle.machine.specs.Merging.{end}
@@ -10,7 +10,7 @@ use Rattle.machine.specs.Sound.{Mem, InUse, Owner, Sound, Reach}
 use Rattle.machine.proofs.Wide.{Receiver, Placing, Reading, Good}
 use Rattle.machine.proofs.Base.{chase_fix, end_forward}
 use Rattle.machine.proofs.Closed.{Closed, Before, closed_all, closed_reach}
-use Rattle.machine.proofs.Fill.{some_same, some_none}
+use Rattle.machine.proofs.Fill.{some_none}
 use Rattle.machine.proofs.Merge.{end_in_use}
 use Rattle.machine.proofs.Kept.{Found, Kept}
 use Rattle.machine.proofs.Ranks.{rank_live, rank_dead}

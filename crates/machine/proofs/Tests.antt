@@ -1,5 +1,5 @@
 -- What the tests of a load tell where they pass.
-use Rattle.std.proofs.Common.{◌≡◌, ℕ, ◌<◌, true, false, ltb, Some, None, Option, unwrap_or, refl, arith}
+use Rattle.std.proofs.Common.{◌≡◌, ℕ, ◌<◌, false, ltb, Some, None, Option, unwrap_or, refl, arith}
 use Rattle.std.proofs.lemmas.Bool.{not-false, ltb-true}
 use Rattle.registers.specs.Writing.{astray}
 

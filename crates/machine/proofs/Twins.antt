@@ -1,5 +1,5 @@
 -- Two complete tables of one load are the same up to the entries' numbers.
-use Rattle.std.proofs.Common.{◌≡◌, ℕ, zero, suc, ◌+◌, ◌<◌, ◌≤◌, Bool, true, false, cond, ◌||◌, eqb, ltb, ◌⊎◌, List, [], ◌∷◌, ◌++◌, map, length, Some, None, Option, sym, refl, ap, ◌∙◌, subst, inl, inr, arith}
+use Rattle.std.proofs.Common.{◌≡◌, ℕ, zero, suc, ◌+◌, ◌<◌, ◌≤◌, Bool, true, false, cond, ◌||◌, eqb, List, [], ◌∷◌, ◌++◌, map, length, Some, None, Option, sym, refl, ap, ◌∙◌, inl, inr, arith}
 use Rattle.std.proofs.lemmas.Bool.{cases_eq, eq-eqb, ne_eqb}
 use Rattle.machine.specs.Loaded.{Loaded}
 use Rattle.machine.specs.State.{Slot, cell, landing, State, on}
@@ -8,10 +8,10 @@ use Rattle.machine.specs.Sweeping.{renamed}
 use Rattle.machine.specs.Readings.{Accepted, worth}
 use Rattle.machine.specs.Sequence.{member, nth, met, met_in, of_kind, of_landings, of_cells, visit, grown, sequence}
 use Rattle.machine.specs.Finish.{with_capacity}
-use Rattle.machine.proofs.Wide.{Receiver, Placing, Reading, Good}
+use Rattle.machine.proofs.Wide.{Reading}
 use Rattle.machine.proofs.Base.{chase_fix}
 use Rattle.machine.proofs.Closed.{only_one}
-use Rattle.machine.proofs.Fill.{some_same, some_none}
+use Rattle.machine.proofs.Fill.{some_none}
 use Rattle.machine.proofs.Numbering.{Fine, fine_short, cells_fine, kind_fine, landings_fine, grown_fine, nth_below}
 use Rattle.machine.proofs.Capacity.{Whole, whole_of}
 use Rattle.machine.proofs.Own.{Living, content, has_parts, parts_has, held_living, own, own_placing, own_reading}

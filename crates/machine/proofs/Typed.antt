@@ -1,15 +1,15 @@
 -- Every call keeps the kinds.
-use Rattle.std.proofs.Common.{◌≡◌, ℕ, zero, suc, ◌<◌, ◌≤◌, Bool, true, false, cond, eqb, ltb, ◌⊎◌, List, [], ◌∷◌, length, Some, None, Option, sym, refl, ap, ◌∙◌, subst, inl, inr, arith}
+use Rattle.std.proofs.Common.{◌≡◌, ℕ, zero, suc, ◌<◌, Bool, true, false, cond, eqb, ltb, List, [], ◌∷◌, length, Some, None, sym, refl, ap, ◌∙◌, subst, inl, inr, arith}
 use Rattle.std.proofs.lemmas.Bool.{cases_eq, cases_lt, eq-eqb, ne_eqb, lt-ltb, cond-true, cond-false}
 use Rattle.machine.specs.Loaded.{Loaded}
-use Rattle.machine.specs.State.{Slot, cell, landing, State, on, put, hold, born}
-use Rattle.machine.specs.Merging.{end, die, meet, merge}
+use Rattle.machine.specs.State.{Slot, cell, landing, State, hold, born}
+use Rattle.machine.specs.Merging.{end, die, merge}
 use Rattle.machine.specs.Walking.{Walked, ended, stopped, walk, walk_in}
-use Rattle.machine.specs.Checking.{closed, merges, fills, stuck, sides, effect, rule_effect, link_effect}
-use Rattle.machine.specs.Settling.{swap, rehold, take_over, pull, drain, pop, settled_first, settled}
-use Rattle.machine.specs.Sweeping.{rank, pick, renamed, swept_held, swept}
+use Rattle.machine.specs.Checking.{closed, merges, sides, effect, rule_effect, link_effect}
+use Rattle.machine.specs.Settling.{rehold, take_over, pull, drain, pop, settled_first, settled}
+use Rattle.machine.specs.Sweeping.{rank, pick, swept}
 use Rattle.machine.specs.Readings.{Accepted, Joins, end_kind}
-use Rattle.machine.specs.Sound.{InUse, Owner, Sound, Mem, content_kind, Leaves, Kinds}
+use Rattle.machine.specs.Sound.{Owner, Sound, content_kind, Leaves, Kinds}
 use Rattle.machine.proofs.Wide.{Good}
 use Rattle.machine.proofs.Base.{chase_keeps}
 use Rattle.machine.proofs.Merge.{turned_cases, meet_cases}

@@ -1,9 +1,7 @@
 -- Lists made by count.
-use Rattle.std.proofs.Common.{◌≡◌, ℕ, zero, suc, ◌+◌, ◌<◌, ◌≤◌, Bool, true, false, cond, ltb, List, [], ◌∷◌, length, get_or, None, Option, sym, refl, ap, ◌∙◌, subst, ⊎_elim, zero-add, arith, length-append}
-use Rattle.std.specs.List.{AllByRecursion as All}
-use Rattle.std.proofs.lemmas.List.{get_or_append_left, get_or_push, ext_get_or}
-use Rattle.std.proofs.ByRecursion.{All-push}
-use Rattle.std.proofs.lemmas.Bool.{cases_lt, ltb-true}
+use Rattle.std.proofs.Common.{◌≡◌, ℕ, suc, ◌+◌, ◌<◌, Bool, true, false, cond, ltb, List, [], ◌∷◌, length, get_or, None, Option, sym, refl, ap, ◌∙◌, subst, zero-add, arith}
+use Rattle.std.proofs.lemmas.List.{ext_get_or}
+use Rattle.std.proofs.lemmas.Bool.{ltb-true}
 use Rattle.words.specs.Numbered.{Each}
 use Rattle.registers.specs.Writing.{upto}
 use Rattle.registers.proofs.WrittenLists.{upto_length, upto_at}

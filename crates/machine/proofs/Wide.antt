@@ -1,5 +1,5 @@
 -- Receivers whose records are any numbers, told by a test and not by a count: what every table keeps is shown over these.
-use Rattle.std.proofs.Common.{◌≡◌, ℕ, ◌<◌, Bool, true, Some, None, Option}
+use Rattle.std.proofs.Common.{◌≡◌, ℕ, ◌<◌, Bool, true, Some}
 use Rattle.machine.specs.Loaded.{Loaded}
 use Rattle.machine.specs.State.{Slot, State}
 use Rattle.machine.specs.Readings.{along, worth}

@@ -1,5 +1,5 @@
 -- The calls that change a table, with their refusals in order.
-use Rattle.std.specs.Prelude.{ℕ, cond, ◌&&◌, List, [], ◌∷◌, Some, None, Option, ◌==◌, nat_lt}
+use Rattle.std.specs.Prelude.{ℕ, cond, ◌&&◌, Some, None, Option, ◌==◌, nat_lt}
 use Rattle.words.specs.declared.faults.Refusal.{Refusal}
 use Rattle.words.specs.declared.faults.Refusal.TheVariants as refusal
 use Rattle.machine.specs.Loaded.{Loaded}

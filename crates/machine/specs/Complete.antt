@@ -1,7 +1,7 @@
 -- What a complete table is.
-use Rattle.std.specs.Prelude.{◌≡◌, ℕ, ◌<◌, List, [], ◌∷◌, Some, None, Option}
+use Rattle.std.specs.Prelude.{◌≡◌, ℕ, ◌<◌, List, [], Some, None}
 use Rattle.machine.specs.Loaded.{Loaded}
-use Rattle.machine.specs.State.{Slot, cell, landing, State, start}
+use Rattle.machine.specs.State.{cell, landing, State, start}
 use Rattle.machine.specs.Walking.{walk, ended}
 use Rattle.machine.specs.Checking.{closed, rule_effect, link_effect}
 use Rattle.machine.specs.Readings.{Accepted}

@@ -1,5 +1,5 @@
 -- Loading: from work words, problem words and a source's meaning to what a table works on, or the one refusal.
-use Rattle.std.specs.Prelude.{ℕ, zero, suc, ◌+◌, ◌-◌, ◌/◌, min, Bool, true, false, cond, not, ◌&&◌, ◌||◌, List, [], ◌∷◌, length, get_or, Some, None, Ok, Err, Option, Result, ◌==◌, nat_lt, slice_index, slice_index_or}
+use Rattle.std.specs.Prelude.{ℕ, zero, suc, ◌+◌, ◌-◌, ◌/◌, min, Bool, true, cond, not, ◌&&◌, ◌||◌, List, [], length, get_or, Some, None, Ok, Err, Option, Result, ◌==◌, nat_lt, slice_index, slice_index_or}
 use Rattle.words.specs.declared.faults.SchemaFault.{SchemaFault}
 use Rattle.problems.specs.Problem.{Link, Problem, no_link, read}
 use Rattle.problems.specs.Tokens.{no_rule}

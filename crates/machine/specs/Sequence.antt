@@ -1,7 +1,7 @@
 -- The sequence in which finish meets the entries of a table.
-use Rattle.std.specs.Prelude.{◌≡◌, ℕ, zero, suc, ◌<◌, Bool, true, false, cond, ◌||◌, List, [], ◌∷◌, ◌++◌, Some, None, Option, ◌==◌}
+use Rattle.std.specs.Prelude.{◌≡◌, ℕ, zero, suc, ◌<◌, Bool, false, cond, ◌||◌, List, [], ◌∷◌, ◌++◌, Some, None, Option, ◌==◌}
 use Rattle.machine.specs.Loaded.{Loaded}
-use Rattle.machine.specs.State.{Slot, cell, landing, State, start, on}
+use Rattle.machine.specs.State.{cell, landing, State, start, on}
 use Rattle.machine.specs.Readings.{Accepted}
 use Rattle.machine.specs.Shift.{Call, calls}
 

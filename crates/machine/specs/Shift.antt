@@ -1,7 +1,7 @@
 -- Shifts: what a step does, and runs with steps among the calls.
-use Rattle.std.specs.Prelude.{◌≡◌, ℕ, zero, suc, pred, ◌+◌, ◌<◌, ◌≤◌, Bool, true, false, cond, not, ◌&&◌, List, [], ◌∷◌, length, Some, None, Option, ◌==◌, nat_lt}
+use Rattle.std.specs.Prelude.{ℕ, zero, suc, pred, ◌+◌, ◌<◌, ◌≤◌, Bool, cond, not, ◌&&◌, List, [], ◌∷◌, length, Some, None, Option, ◌==◌, nat_lt}
 use Rattle.machine.specs.Loaded.{Loaded}
-use Rattle.machine.specs.State.{Slot, cell, landing, State, start, waits, filled}
+use Rattle.machine.specs.State.{cell, landing, State, start, waits, filled}
 use Rattle.machine.specs.Checking.{Effect, closed, merges, fills, stuck, rule_effect, link_effect}
 use Rattle.machine.specs.Sweeping.{rank}
 use Rattle.machine.specs.Calls.{Op, land, define, check_rule, check_link, settle, sweep, apply}

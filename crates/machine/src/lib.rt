@@ -1,5 +1,6 @@
 // The machine of a table: its definitions stand in specs/, and its laws here, each as the contract of a function that does nothing.
 #![tactic(auto)]
+
 ghost use Rattle.machine.specs.Promise.{LoadsAccepted, Promise};
 ghost use Rattle.machine.specs.ReadBack.{FinishReadsBack};
 ghost use Rattle.machine.specs.Shift.{AllSound, AllReached, AllRoom, AllWithin, AllKinds};

@@ -7,7 +7,7 @@ use Rattle.words.specs.declared.faults.SchemaFault.TheVariants.{Words, Unknown, 
 use Rattle.words.specs.Words.{word, worded, then, starts}
 use Rattle.words.proofs.Inverse.{err_ok, then_ok, worded_ok, if_ok, else_ok}
 use Rattle.words.proofs.Single.{word_told}
-use Rattle.words.specs.Items.{sized, got, places, one_word}
+use Rattle.words.specs.Items.{sized, got, one_word}
 use Rattle.problems.specs.Problem.{Link, no_link, link_of, link, links, step_of, step, path}
 use Rattle.problems.specs.Seen.{Linked, links_got, reached}
 use Rattle.words.proofs.Items.{items_at, places_one}

@@ -1,5 +1,6 @@
 // The reader of problem files: two schemas, rules, kind maps and link maps.
 #![tactic(auto)]
+
 ghost use Rattle.std.specs.Prelude.{◌≡◌, ◌+◌, ◌-◌, ◌/◌, ◌%◌, ◌<◌, ◌≤◌, length, take, IfOk, Ok, slice_index, slice_index_or};
 ghost use Rattle.words.specs.Items.{one_word, sized, behind, outlined, ended};
 ghost use Rattle.problems.specs.Problem.{no_link, schema as schema_of, link as link_of, links as links_of, step as step_of, path as path_of, rule as rule_of, rule_size, rules as rules_of, kind_mapped, kind_maps, link_mapped, link_maps, path_size, whole_schema, behind_schemas, read as read_of};

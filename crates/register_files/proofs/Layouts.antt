@@ -1,18 +1,18 @@
 -- A register file is accepted exactly if it is the layout of a well-formed one.
-use Rattle.std.proofs.Common.{◌≡◌, ℕ, zero, suc, ◌+◌, ◌-◌, ◌*◌, ◌<◌, ◌≤◌, Bool, true, false, cond, ltb, List, [], ◌∷◌, ◌++◌, map, length, get_or, Ok, Err, Result, sym, refl, ap, ◌∙◌, subst, zero-add, arith, length-append}
+use Rattle.std.proofs.Common.{◌≡◌, ℕ, ◌+◌, ◌*◌, ◌<◌, ◌≤◌, true, false, ltb, List, [], ◌∷◌, ◌++◌, map, length, get_or, Ok, Result, sym, refl, ap, ◌∙◌, zero-add, arith, length-append}
 use Rattle.std.proofs.ByRecursion.{All-get_or}
-use Rattle.std.proofs.lemmas.List.{length-map, append_assoc}
+use Rattle.std.proofs.lemmas.List.{length-map}
 use Rattle.std.proofs.lemmas.Bool.Decides.{nat_tests}
 use Rattle.std.specs.List.{flat_map, AllByRecursion as All}
 use Rattle.words.specs.declared.faults.SchemaFault.{SchemaFault}
-use Rattle.words.specs.Words.{word, worded, then, starts, end}
+use Rattle.words.specs.Words.{worded, starts, end}
 use Rattle.words.specs.Items.{items, one_word, run, sizes}
 use Rattle.words.specs.Numbered.{numbered, Each}
-use Rattle.register_files.specs.Register.{Row, File, count, counted, link, landing, span, counts_of, links_of, landings_of, read}
+use Rattle.register_files.specs.Register.{Row, File, count, counted, link, landing, span, read}
 use Rattle.words.specs.Tags.{tagged}
 use Rattle.register_files.specs.Layout.{link_words, landing_words, before_end, layout, GoodLink, GoodLanding, WellFormed, ReadsLayouts}
-use Rattle.words.proofs.Single.{Stood, word_told, word_read}
-use Rattle.register_files.proofs.Parts.{LinkRead, link_told, link_made, LandingRead, landing_told, landing_made, KindsRead, counts_told, counts_read, count_told, counted_told}
+use Rattle.words.proofs.Single.{word_told, word_read}
+use Rattle.register_files.proofs.Parts.{link_told, link_made, landing_told, landing_made, counts_told, counts_read, count_told, counted_told}
 use Rattle.words.proofs.Items.{run_length, sizes_one, items_length, none_left}
 use Rattle.words.proofs.Laid.{joined_numbered, each_all, all_each, numbered_length, items_stand, items_each, items_read, end_told, end_read}
 use Rattle.register_files.proofs.Files.{FileRead, read_told, read_made}

@@ -1,10 +1,9 @@
 -- The parts of a register file.
-use Rattle.std.proofs.Common.{◌≡◌, ℕ, zero, suc, ◌+◌, ◌-◌, ◌*◌, ◌/◌, ◌%◌, ◌<◌, ◌≤◌, Bool, true, false, cond, ◌&&◌, eqb, ltb, List, [], ◌∷◌, length, get_or, Ok, Err, Result, sym, refl, ap, ◌∙◌, arith}
+use Rattle.std.proofs.Common.{◌≡◌, ℕ, zero, suc, ◌+◌, ◌*◌, ◌/◌, ◌%◌, ◌<◌, ◌≤◌, Bool, true, false, cond, ◌&&◌, eqb, ltb, List, length, get_or, Ok, Err, Result, sym, refl, ap, ◌∙◌, arith}
 use Rattle.std.proofs.lemmas.Bool.Decides.{nat_tests}
-use Rattle.words.specs.declared.faults.WordFault.{WordFault}
-use Rattle.words.specs.declared.faults.WordFault.TheVariants.{Missing, Wrong, Limit}
+use Rattle.words.specs.declared.faults.WordFault.TheVariants.{Limit}
 use Rattle.words.specs.declared.faults.SchemaFault.{SchemaFault}
-use Rattle.words.specs.declared.faults.SchemaFault.TheVariants.{Words, Unknown, Unjoined}
+use Rattle.words.specs.declared.faults.SchemaFault.TheVariants.{Words, Unknown}
 use Rattle.words.specs.Words.{word, worded, then}
 use Rattle.words.specs.Items.{one_word, run, sized, got, behind, ended}
 use Rattle.register_files.specs.Register.{Row, count, counted, row, link, landing, span, counts_of}

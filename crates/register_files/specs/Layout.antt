@@ -1,5 +1,5 @@
 -- Which register files there are, and how they are laid out in words.
-use Rattle.std.specs.Prelude.{◌≡◌, ℕ, ◌+◌, ◌*◌, ◌<◌, ◌≤◌, List, [], ◌∷◌, ◌++◌, map, length, Ok, Err, slice_index}
+use Rattle.std.specs.Prelude.{◌≡◌, ℕ, ◌+◌, ◌*◌, ◌<◌, ◌≤◌, List, [], ◌∷◌, ◌++◌, map, length, Ok, slice_index}
 use Rattle.std.specs.List.{flat_map, AllByRecursion as All}
 use Rattle.words.specs.Tags.{tagged}
 use Rattle.words.specs.Numbered.{Each}

@@ -1,5 +1,6 @@
 // The reader of register files.
 #![tactic(auto)]
+
 ghost use Rattle.std.specs.Prelude.{◌≡◌, ◌+◌, ◌-◌, ◌/◌, ◌%◌, ◌<◌, ◌≤◌, length, IfOk, slice_index};
 ghost use Rattle.words.specs.declared.faults.SchemaFault.TheVariants.{Words};
 ghost use Rattle.register_files.specs.Register.{count as count_of, counted as counted_of, link as link_of, landing as landing_of, span, counts_of, links_of, landings_of, read};

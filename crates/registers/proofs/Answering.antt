@@ -1,5 +1,5 @@
 -- The answers of a held register are those of its file.
-use Rattle.std.proofs.Common.{◌≡◌, ℕ, zero, suc, ◌+◌, ◌-◌, ◌*◌, ◌/◌, ◌%◌, ◌<◌, ◌≤◌, Bool, true, false, cond, ltb, List, [], ◌∷◌, length, get_or, take, Some, None, Ok, Err, Option, Result, sym, refl, ap, ◌∙◌, arith}
+use Rattle.std.proofs.Common.{◌≡◌, ℕ, ◌+◌, ◌-◌, ◌*◌, ◌/◌, ◌%◌, ◌<◌, ◌≤◌, Bool, true, false, cond, ltb, List, [], length, get_or, take, Some, None, Ok, Err, Result, sym, refl, ap, ◌∙◌, arith}
 use Rattle.std.proofs.lemmas.List.{get_or-take, get_or_past}
 use Rattle.std.proofs.lemmas.Bool.Decides.{nat_tests}
 use Rattle.words.specs.declared.faults.SchemaFault.{SchemaFault}
@@ -8,7 +8,6 @@ use Rattle.register_files.specs.Register.{Row, File, link, span, read}
 use Rattle.words.specs.Items.{places}
 use Rattle.register_files.specs.Outline.{outline_of}
 use Rattle.registers.specs.Meaning.{Lawful, no_row, row_at, no_file, or_none, file, answers}
-use Rattle.registers.specs.Holding.{kept}
 use Rattle.words.proofs.Inverse.{err_ok}
 use Rattle.words.proofs.Single.{Stood, word_told}
 use Rattle.words.proofs.Items.{run_at, run_length, items_at}

@@ -1,9 +1,9 @@
 -- A wheel keeps to the laws of registers.
-use Rattle.std.proofs.Common.{◌≡◌, ℕ, ◌+◌, ◌%◌, ◌<◌, ◌≤◌, min, Bool, true, false, cond, eqb, ltb, List, length, get_or, take, Some, None, Option, sym, refl, ap, ◌∙◌, ⊎_elim, arith}
+use Rattle.std.proofs.Common.{◌≡◌, ℕ, ◌<◌, ◌≤◌, min, Bool, true, false, cond, ltb, List, length, take, Some, None, sym, ap, ◌∙◌, ⊎_elim, arith}
 use Rattle.std.proofs.lemmas.List.{take_all}
 use Rattle.std.proofs.lemmas.Bool.{cases_lt}
 use Rattle.std.proofs.lemmas.Bool.Decides.{nat_tests}
-use Rattle.registers.specs.Meaning.{Meaning, Lawful, Given}
+use Rattle.registers.specs.Meaning.{Lawful}
 use Rattle.registers.specs.Wheels.{wheel}
 
 ends_kind : (b : Bool) (e : ℕ × ℕ) → cond b (Some (0, 0)) None ≡ Some e → e.0 ≡ 0

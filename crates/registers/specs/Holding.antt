@@ -3,7 +3,7 @@ use Rattle.std.specs.Prelude.{Ok, Err, Result}
 use Rattle.words.specs.declared.faults.SchemaFault.{SchemaFault}
 use Rattle.registers.specs.declared.held.Held.{Held}
 use Rattle.register_files.specs.Register.{File}
-use Rattle.registers.specs.Meaning.{Meaning, file, answers}
+use Rattle.registers.specs.Meaning.{file}
 
 abbrev pub held_file : Held → File
 held_file h = file h.words.now

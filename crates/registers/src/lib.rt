@@ -1,5 +1,6 @@
 // Registers behind one interface.
 #![tactic(auto)]
+
 pub mod blank;
 pub mod held;
 pub mod register;

@@ -4,7 +4,7 @@ use Rattle.std.proofs.lemmas.List.{take_more_set}
 use Rattle.std.proofs.lemmas.Bool.Decides.{nat_tests}
 use Rattle.words.specs.declared.faults.SchemaFault.{SchemaFault}
 use Rattle.words.specs.Words.{then}
-use Rattle.words.specs.Items.{items, one_word, run, sizes, sized, got, behind, outlined, places, prepended, ended}
+use Rattle.words.specs.Items.{items, one_word, run, sizes, sized, behind, outlined, places, prepended, ended}
 use Rattle.words.proofs.Inverse.{err_ok, then_ok}
 
 pub behind_ok : {X : Type 0} (size : X → ℕ) (at next : ℕ) (r : Result X SchemaFault) → behind size at r ≡ Ok next → (l : X) × (r ≡ Ok l) × (next ≡ at + size l)

@@ -1,9 +1,9 @@
 -- One word: what a reading of it tells, and which words are read.
-use Rattle.std.proofs.Common.{◌≡◌, ℕ, zero, suc, ◌+◌, ◌-◌, ◌*◌, ◌/◌, ◌%◌, ◌<◌, ◌≤◌, List, [], ◌∷◌, length, get_or, Ok, Err, Result, sym, refl, ap, ◌∙◌, arith, lit≤}
+use Rattle.std.proofs.Common.{◌≡◌, ℕ, ◌<◌, ◌≤◌, List, length, get_or, Ok, arith, lit≤}
 use Rattle.std.proofs.lemmas.Bool.Decides.{nat_tests}
 use Rattle.words.specs.declared.tags.Tag.{Tag}
 use Rattle.words.specs.Tags.{tagged, size}
-use Rattle.words.specs.Words.{word, worded, tag, fields}
+use Rattle.words.specs.Words.{word}
 use Rattle.words.specs.declared.tags.Tag.TheVariants as tag
 
 size_fits : (t : Tag) → size t ≤ 268435456

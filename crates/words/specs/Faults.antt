@@ -1,7 +1,6 @@
 -- Refusals: the number and the layer of each, and the fault that each reader's answer is.
 use Rattle.std.specs.Prelude.{ℕ, ◌+◌, ◌*◌, min}
 use Rattle.words.specs.declared.faults.Refusal.{Refusal}
-use Rattle.words.specs.declared.faults.Refusal.TheVariants as refusal
 use Rattle.words.specs.declared.faults.Refusal.TheVariants.{State, Missing, Wrong, Limit, Unknown, Unjoined, Shape, Large, Leads, Waiting, NotLiving, Filled, Full, NoneWaits, Incomplete, Memory}
 use Rattle.words.specs.declared.faults.Fault.{Fault}
 use Rattle.words.specs.declared.faults.WordFault.{WordFault}

@@ -1,4 +1,4 @@
-use Rattle.std.proofs.Common.{◌∙◌, arith}
+use Rattle.std.proofs.Common.{arith}
 use Rattle.register_files.proofs.Parts.{known_stood}
 use Rattle.register_files.proofs.count_at.Goals as goal
 

@@ -1,4 +1,4 @@
-use Rattle.std.proofs.Common.{◌≡◌, sym, ◌∙◌, arith}
+use Rattle.std.proofs.Common.{sym, ◌∙◌, arith}
 use Rattle.register_files.proofs.Parts.{kinds_code}
 use Rattle.register_files.proofs.kinds.Goals as goal
 

@@ -1,4 +1,4 @@
-use Rattle.std.proofs.Common.{◌≡◌, sym, ◌∙◌, arith}
+use Rattle.std.proofs.Common.{sym, ◌∙◌, arith}
 use Rattle.register_files.proofs.Parts.{landing_code}
 use Rattle.register_files.proofs.landing.Goals as goal
 

@@ -1,4 +1,4 @@
-use Rattle.std.proofs.Common.{◌≡◌, sym, ◌∙◌, arith}
+use Rattle.std.proofs.Common.{sym, ◌∙◌, arith}
 use Rattle.register_files.proofs.Parts.{link_code}
 use Rattle.register_files.proofs.link.Goals as goal
 

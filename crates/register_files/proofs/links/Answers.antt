@@ -1,4 +1,4 @@
-use Rattle.std.proofs.Common.{◌≡◌, ◌-◌, ◌<◌, length, take, sym, refl, ap, ◌∙◌, arith, lit≤, length-set}
+use Rattle.std.proofs.Common.{◌-◌, ◌<◌, take, sym, refl, ap, ◌∙◌, arith, lit≤, length-set}
 use Rattle.std.proofs.lemmas.Result.{err_from_is_err_and}
 use Rattle.words.specs.Items.{prepended}
 use Rattle.register_files.specs.Outline.{counts_got}

@@ -1,4 +1,4 @@
-use Rattle.std.proofs.Common.{◌≡◌, ◌≤◌, length, take, sym, ap, ◌∙◌, arith, rules}
+use Rattle.std.proofs.Common.{◌≤◌, length, take, sym, rules}
 use Rattle.std.proofs.lemmas.List.{length-take-le}
 use Rattle.register_files.proofs.Files.{all_read}
 use Rattle.register_files.proofs.outlined.Goals as goal

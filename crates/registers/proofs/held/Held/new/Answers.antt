@@ -1,4 +1,4 @@
-use Rattle.std.proofs.Common.{◌≡◌, length, sym, refl, ap, lit≤}
+use Rattle.std.proofs.Common.{length, sym, ap, lit≤}
 use Rattle.words.specs.Items.{places}
 use Rattle.register_files.specs.Register.{span}
 use Rattle.registers.proofs.Answering.{file_none}
@@ -9,7 +9,7 @@ invariant_of-result c = record {
   few = lit≤ tt;
   kinded = ap (λ f. length f.counts) (sym file_none);
   linked = ap (λ f. length f.links) (sym file_none);
-  placed = ap (λ f. places span 1 f.links) (sym file_none)
+  placed = ap (λ f. places span 1 f.links) (sym file_none);
 }
 
 pub returns : goal.returns

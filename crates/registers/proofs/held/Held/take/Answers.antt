@@ -1,4 +1,4 @@
-use Rattle.std.proofs.Common.{◌≡◌, sym, ap}
+use Rattle.std.proofs.Common.{sym, ap}
 use Rattle.words.specs.Words.{giving}
 use Rattle.registers.specs.Holding.{kept, held_file}
 use Rattle.registers.proofs.Answering.{file_made}

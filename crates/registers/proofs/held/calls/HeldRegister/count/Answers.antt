@@ -1,5 +1,5 @@
 use Rattle.std.proofs.Common.{◌∙◌}
-use Rattle.registers.proofs.Answering.{count_inside, count_is, count_none}
+use Rattle.registers.proofs.Answering.{count_is, count_none}
 use Rattle.registers.proofs.held.calls.HeldRegister.count.Goals as goal
 
 pub returns-then-kind-self : goal.returns-then-kind-self

@@ -1,5 +1,5 @@
 use Rattle.std.proofs.Common.{◌/◌, ◌%◌, Some, ap, ◌∙◌}
-use Rattle.registers.proofs.Answering.{link_inside, ends_are}
+use Rattle.registers.proofs.Answering.{ends_are}
 use Rattle.registers.proofs.held.calls.HeldRegister.ends.Goals as goal
 
 pub returns-then-link-self : goal.returns-then-link-self

@@ -1,4 +1,4 @@
-use Rattle.std.proofs.Common.{Some, ap, ◌∙◌, arith, rules}
+use Rattle.std.proofs.Common.{Some, ap, ◌∙◌, rules}
 use Rattle.registers.proofs.Answering.{follow_inside, follow_gives, follow_stops}
 use Rattle.registers.proofs.held.calls.HeldRegister.follow.Goals as goal
 
