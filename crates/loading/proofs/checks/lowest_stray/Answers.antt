@@ -9,10 +9,10 @@ unfolding lowest
 loop-link-init g c = refl
 
 pub loop-link-preserved : goal.loop-link-preserved
-loop-link-preserved g c = lowest_more _ _ c.loop-link.invariant (sym c.if-link-strays.ensures)
+loop-link-preserved g c = lowest_more _ _ c.loop-link.invariant (sym c.if-link_strays.ensures)
 
-pub returns-then-link-strays : goal.returns-then-link-strays
-returns-then-link-strays g c = lowest_found _ c.loop-link.link _ (omega arith) c.loop-link.invariant (sym c.if-link-strays.ensures)
+pub returns-then-link_strays : goal.returns-then-link_strays
+returns-then-link_strays g c = lowest_found _ c.loop-link.link _ (omega arith) c.loop-link.invariant (sym c.if-link_strays.ensures)
 
 pub returns : goal.returns
 returns g c =

@@ -9,10 +9,10 @@ unfolding some_below
 loop-link-init g c = refl
 
 pub loop-link-preserved : goal.loop-link-preserved
-loop-link-preserved g c = none_more _ _ c.loop-link.invariant (sym c.if-other-ends.ensures)
+loop-link-preserved g c = none_more _ _ c.loop-link.invariant (sym c.if-other_ends.ensures)
 
-pub returns-then-other-ends : goal.returns-then-other-ends
-returns-then-other-ends g c = some_found _ c.loop-link.link _ (omega arith) (sym c.if-other-ends.ensures)
+pub returns-then-other_ends : goal.returns-then-other_ends
+returns-then-other_ends g c = some_found _ c.loop-link.link _ (omega arith) (sym c.if-other_ends.ensures)
 
 pub returns : goal.returns
 returns g c =

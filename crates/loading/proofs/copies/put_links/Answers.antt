@@ -10,14 +10,14 @@ loop-link-init g c =
     let m = g.R.Register.meaning c.args.source.now in
     (omega (arith, sum_none (leaving (problem_in c.args.problem.now) m.count)), leads_none _ m c.args.at _)
 
-pub put-link-requires : goal.put-link-requires
-put-link-requires g c =
+pub put_link-requires : goal.put_link-requires
+put_link-requires g c =
     let f = leaving (problem_in c.args.problem.now) (g.R.Register.meaning c.args.source.now).count in
     let s = sum_more f c.args.schema.links c.loop-link.link (omega arith) in
     omega arith
 
-pub overflow-add-next : goal.overflow-add-next
-overflow-add-next g c =
+pub overflow_add-next : goal.overflow_add-next
+overflow_add-next g c =
     let f = leaving (problem_in c.args.problem.now) (g.R.Register.meaning c.args.source.now).count in
     let s = sum_more f c.args.schema.links c.loop-link.link (omega arith) in
     omega arith
@@ -27,4 +27,4 @@ loop-link-preserved g c =
     let m = g.R.Register.meaning c.args.source.now in
     let p = problem_in c.args.problem.now in
     let s = sum_next (leaving p m.count) c.loop-link.link in
-    (omega arith, leads_more p m c.args.at c.loop-link.next c.loop-link.link _ _ _ _ (omega arith) c.loop-link.invariant.0 c.leaving-n.ensures c.loop-link.invariant.1 c.put-link.ensures)
+    (omega arith, leads_more p m c.args.at c.loop-link.next c.loop-link.link _ _ _ _ (omega arith) c.loop-link.invariant.0 c.leaving-n.ensures c.loop-link.invariant.1 c.put_link.ensures)

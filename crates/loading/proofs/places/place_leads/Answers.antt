@@ -8,8 +8,8 @@ loop-link-init g c =
     let f = leaving (problem_in c.args.problem.now) (g.R.Register.meaning c.args.source.now).count in
     (refl, none_kept _, omega (arith, sum_none f), omega arith)
 
-pub overflow-add-next : goal.overflow-add-next
-overflow-add-next g c = omega arith
+pub overflow_add-next : goal.overflow_add-next
+overflow_add-next g c = omega arith
 
 pub loop-link-preserved : goal.loop-link-preserved
 loop-link-preserved g c =

@@ -7,8 +7,8 @@ loop-kind-init g c =
     let m = g.R.Register.meaning c.args.source.now in
     (refl, refl, none_kept m.count, none_kept _, omega (arith, sum_none m.count), omega arith)
 
-pub overflow-add-next : goal.overflow-add-next
-overflow-add-next g c = omega arith
+pub overflow_add-next : goal.overflow_add-next
+overflow_add-next g c = omega arith
 
 pub loop-kind-preserved : goal.loop-kind-preserved
 loop-kind-preserved g c =
