@@ -3,16 +3,16 @@ use Rattle.rows.specs.View.{raw}
 use Rattle.numbering.proofs.Listing.{numbered_none, numbers_all, lists_all}
 use Rattle.numbering.proofs.number.Goals as goal
 
-pub meet-landings-requires : goal.meet-landings-requires
-meet-landings-requires c = (raw c.args.rows.now, [], numbered_none (raw c.args.rows.now) c.requires)
+pub meet_landings-requires : goal.meet_landings-requires
+meet_landings-requires c = (raw c.args.rows.now, [], numbered_none (raw c.args.rows.now) c.requires)
 
-pub visit-all-requires : goal.visit-all-requires
-visit-all-requires c = (raw c.args.rows.now, _, c.meet-landings.ensures (raw c.args.rows.now) [] (numbered_none (raw c.args.rows.now) c.requires))
+pub visit_all-requires : goal.visit_all-requires
+visit_all-requires c = (raw c.args.rows.now, _, c.meet_landings.ensures (raw c.args.rows.now) [] (numbered_none (raw c.args.rows.now) c.requires))
 
 pub returns : goal.returns
 returns c = record {
-  marked = numbers_all (raw c.args.rows.now) (raw c.meet-landings.new.rows) (raw c.visit-all.new.rows) _ c.meet-landings.new.self c.visit-all.new.self
-      (numbered_none (raw c.args.rows.now) c.requires) c.meet-landings.ensures c.visit-all.ensures;
-  listed = lists_all (raw c.args.rows.now) (raw c.meet-landings.new.rows) (raw c.visit-all.new.rows) _ c.meet-landings.new.self c.visit-all.new.self
-      (numbered_none (raw c.args.rows.now) c.requires) c.meet-landings.ensures c.visit-all.ensures;
+  marked = numbers_all (raw c.args.rows.now) (raw c.meet_landings.new.rows) (raw c.visit_all.new.rows) _ c.meet_landings.new.self c.visit_all.new.self
+      (numbered_none (raw c.args.rows.now) c.requires) c.meet_landings.ensures c.visit_all.ensures;
+  listed = lists_all (raw c.args.rows.now) (raw c.meet_landings.new.rows) (raw c.visit_all.new.rows) _ c.meet_landings.new.self c.visit_all.new.self
+      (numbered_none (raw c.args.rows.now) c.requires) c.meet_landings.ensures c.visit_all.ensures;
 }

@@ -6,11 +6,11 @@ use Rattle.numbering.proofs.restore.Goals as goal
 pub loop-i-init : goal.loop-i-init
 loop-i-init c = λ a xs m h. restored_none a (raw c.args.rows.now) xs m
 
-pub restore-one-requires : goal.restore-one-requires
-restore-one-requires c = let u = c.requires in (u.0, u.1, (c.loop-i.invariant u.0 u.1 u.2 u.3).kept, omega arith)
+pub restore_one-requires : goal.restore_one-requires
+restore_one-requires c = let u = c.requires in (u.0, u.1, (c.loop-i.invariant u.0 u.1 u.2 u.3).kept, omega arith)
 
 pub loop-i-preserved : goal.loop-i-preserved
-loop-i-preserved c = λ a xs m h. c.restore-one.ensures a xs (omega arith) (c.loop-i.invariant a xs m h)
+loop-i-preserved c = λ a xs m h. c.restore_one.ensures a xs (omega arith) (c.loop-i.invariant a xs m h)
 
 pub returns : goal.returns
 returns c = λ a xs m h. restored_all a (raw c.loop-i.rows) xs c.loop-i.i (omega arith) (c.loop-i.invariant a xs m h)

@@ -4,7 +4,7 @@ use Rattle.numbering.proofs.Meeting.{next_held, next_new, numbered_more}
 use Rattle.numbering.proofs.Numbering.mark.Goals as goal
 
 pub kind-kind-requires : goal.kind-kind-requires
-kind-kind-requires c = let h = next_held (raw c.args.rows.now) c.args.self.now c.args.e c.requires in (h.fits, h.below)
+kind-kind-requires c = let h = next_held (raw c.args.rows.now) c.args.self.now c.args.e c.requires in record { fits = h.fits; e_lt_given = h.below }
 
 pub bounds-self-kind : goal.bounds-self-kind
 bounds-self-kind c = (next_new (raw c.args.rows.now) c.args.self.now c.args.e c.requires c.kind-kind.result c.kind-kind.ensures).kind_small
@@ -13,16 +13,16 @@ pub at-slot-requires : goal.at-slot-requires
 at-slot-requires c =
     let h = next_held (raw c.args.rows.now) c.args.self.now c.args.e c.requires in
     let n = next_new (raw c.args.rows.now) c.args.self.now c.args.e c.requires c.kind-kind.result c.kind-kind.ensures in
-    (h.fits, n.room, omega arith)
+    record { fits_2 = h.fits; e_lt_capacity = n.room; j_bound = omega arith }
 
 pub at-at-requires : goal.at-at-requires
-at-at-requires c = let h = next_held (raw c.args.rows.now) c.args.self.now c.args.e c.requires in (h.fits, h.within, omega arith)
+at-at-requires c = let h = next_held (raw c.args.rows.now) c.args.self.now c.args.e c.requires in record { fits_2 = h.fits; e_lt_capacity = h.within; j_bound = omega arith }
 
-pub overflow-add-rows : goal.overflow-add-rows
-overflow-add-rows c = let n = next_new (raw c.args.rows.now) c.args.self.now c.args.e c.requires c.kind-kind.result c.kind-kind.ensures in search rules
+pub overflow_add-rows : goal.overflow_add-rows
+overflow_add-rows c = let n = next_new (raw c.args.rows.now) c.args.self.now c.args.e c.requires c.kind-kind.result c.kind-kind.ensures in search rules
 
-pub overflow-add-self : goal.overflow-add-self
-overflow-add-self c = let n = next_new (raw c.args.rows.now) c.args.self.now c.args.e c.requires c.kind-kind.result c.kind-kind.ensures in search rules
+pub overflow_add-self : goal.overflow_add-self
+overflow_add-self c = let n = next_new (raw c.args.rows.now) c.args.self.now c.args.e c.requires c.kind-kind.result c.kind-kind.ensures in search rules
 
 pub bounds-self-kind-2 : goal.bounds-self-kind-2
 bounds-self-kind-2 c = (next_new (raw c.args.rows.now) c.args.self.now c.args.e c.requires c.kind-kind.result c.kind-kind.ensures).kind_small

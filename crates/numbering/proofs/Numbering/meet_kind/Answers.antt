@@ -9,7 +9,7 @@ pub loop-q-init : goal.loop-q-init
 loop-q-init c = kind_none (raw c.args.rows.now) c.args.self.now c.args.k
 
 pub meet-requires : goal.meet-requires
-meet-requires c = still_counting (raw c.args.rows.now) c.args.self.now (raw c.loop-q.rows) c.loop-q.self _ c.loop-q.invariant c.requires.0
+meet-requires c = still_counting (raw c.args.rows.now) c.args.self.now (raw c.loop-q.rows) c.loop-q.self _ c.loop-q.invariant c.requires.counting
 
 pub loop-q-preserved : goal.loop-q-preserved
 loop-q-preserved c =

@@ -8,15 +8,15 @@ use Rattle.numbering.proofs.Numbering.meet_landings.Goals as goal
 pub loop-k-init : goal.loop-k-init
 loop-k-init c = kinds_none (raw c.args.rows.now) c.args.self.now
 
-pub meet-kind-requires : goal.meet-kind-requires
-meet-kind-requires c =
+pub meet_kind-requires : goal.meet_kind-requires
+meet_kind-requires c =
     let s = ap (λ (h : Shape). h.kinds) (grown_shape (raw c.args.rows.now) c.args.self.now c.requires (raw c.loop-k.rows) c.loop-k.self _ c.loop-k.invariant) in
-    (still_counting (raw c.args.rows.now) c.args.self.now (raw c.loop-k.rows) c.loop-k.self _ c.loop-k.invariant c.requires, omega arith)
+    record { counting = still_counting (raw c.args.rows.now) c.args.self.now (raw c.loop-k.rows) c.loop-k.self _ c.loop-k.invariant c.requires; k_lt_kinds = omega arith }
 
 pub loop-k-preserved : goal.loop-k-preserved
 loop-k-preserved c =
-    grows_then (raw c.args.rows.now) c.args.self.now (raw c.loop-k.rows) c.loop-k.self _ _ _ (raw c.meet-kind.new.rows) c.meet-kind.new.self
-    c.loop-k.invariant c.meet-kind.ensures (kinds_more c.loop-k.k)
+    grows_then (raw c.args.rows.now) c.args.self.now (raw c.loop-k.rows) c.loop-k.self _ _ _ (raw c.meet_kind.new.rows) c.meet_kind.new.self
+    c.loop-k.invariant c.meet_kind.ensures (kinds_more c.loop-k.k)
 
 pub returns : goal.returns
 returns c =

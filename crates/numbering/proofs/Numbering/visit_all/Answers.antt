@@ -7,7 +7,7 @@ pub loop-i-init : goal.loop-i-init
 loop-i-init c = (rows_none (raw c.args.rows.now) c.args.self.now, omega arith)
 
 pub visit-requires : goal.visit-requires
-visit-requires c = (still_counting (raw c.args.rows.now) c.args.self.now (raw c.loop-i.rows) c.loop-i.self _ c.loop-i.invariant.0 c.requires, c.loop-i-test.true)
+visit-requires c = record { counting = still_counting (raw c.args.rows.now) c.args.self.now (raw c.loop-i.rows) c.loop-i.self _ c.loop-i.invariant.0 c.requires; i_lt_met = c.loop-i-test.true }
 
 pub loop-i-preserved : goal.loop-i-preserved
 loop-i-preserved c =
