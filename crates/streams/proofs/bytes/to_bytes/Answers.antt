@@ -9,5 +9,5 @@ pub returns : goal.returns
 returns c =
     let e : c.loop-i.i ≡ c.min-n.result = omega arith in
     let m : c.min-n.result ≤ length c.args.words.now = omega arith in
-    let w = all_written _ _ _ _ _ e m c.loop-i.invariant (λ k. omega (arith, c.type-inv.words k)) in
+    let w = all_written _ _ _ _ _ e m c.loop-i.invariant (λ k. omega (arith, c.type_inv.words k)) in
     record { count = ap (λ k. 4 * k) c.min-n.ensures; bytes = w.0; back = w.1 }
