@@ -45,8 +45,8 @@ pub fn lowest<S: Search>(
 ) -> Option<Task>
     requires fits { Fits (raw rows.now) }
     requires holding { Holding (raw rows.now) found.now leads.now }
-    requires always { Always (raw rows.now) found.now leads.now (within search.now) }
-    ensures { Always (raw rows.now) found.now leads.now (λ L s. shown_task result ≡ lowest (bound search.now L s) (sought search.now L s)) }
+    requires always { Always (raw rows.now) found.now leads.now (S.within search.now) }
+    ensures { Always (raw rows.now) found.now leads.now (λ L s. shown_task result ≡ lowest (S.bound search.now L s) (S.sought search.now L s)) }
 {
     let n = search.size(rows, found, leads);
     for i in 0..n {

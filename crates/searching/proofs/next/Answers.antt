@@ -10,14 +10,14 @@ returns-in-Some c L h = searches L (raw c.args.rows.now) c.if-rows-gt0.false _ (
 
 pub returns-in-Some-lowest : goal.returns-in-Some-lowest
 returns-in-Some-lowest c L h =
-    searches L (raw c.args.rows.now) c.if-rows-gt0.false _ (passes _ _ _ (c.in-default.ensures L h) (stops _ _ _ (c.in-Some-lowest.ensures L h)))
+    searches L (raw c.args.rows.now) c.if-rows-gt0.false _ (passes _ _ _ (c.in_default.ensures L h) (stops _ _ _ (c.in-Some-lowest.ensures L h)))
 
 pub returns-in-Some-lowest-2 : goal.returns-in-Some-lowest-2
 returns-in-Some-lowest-2 c L h =
     searches L (raw c.args.rows.now) c.if-rows-gt0.false _
-    (passes _ _ _ (c.in-default.ensures L h) (passes _ _ _ (c.in-default-lowest.ensures L h) (stops _ _ _ (c.in-Some-lowest-2.ensures L h))))
+    (passes _ _ _ (c.in_default.ensures L h) (passes _ _ _ (c.in_default-lowest.ensures L h) (stops _ _ _ (c.in-Some-lowest-2.ensures L h))))
 
 pub returns : goal.returns
 returns c L h =
     searches L (raw c.args.rows.now) c.if-rows-gt0.false _
-    (passes _ _ _ (c.in-default.ensures L h) (passes _ _ _ (c.in-default-lowest.ensures L h) (passes _ _ _ (c.in-default-lowest-2.ensures L h) (c.lowest-4.ensures L h))))
+    (passes _ _ _ (c.in_default.ensures L h) (passes _ _ _ (c.in_default-lowest.ensures L h) (passes _ _ _ (c.in_default-lowest-2.ensures L h) (c.lowest-4.ensures L h))))

@@ -4,4 +4,4 @@ use Rattle.searching.proofs.Rules.{rules_told}
 use Rattle.searching.proofs.checks.RulesSearch.size.Goals as goal
 
 pub returns : goal.returns
-returns c L h = let t = rules_told L (raw c.args.-rows.now) c.args.found.now h.stands in omega arith
+returns c L h = let t = rules_told L (raw c.args._rows.now) c.args.found.now h.stands in omega arith
