@@ -8,15 +8,15 @@ use Rattle.finishing.proofs.FileParts.{file_refused, file_told}
 use Rattle.finishing.proofs.write.Goals as goal
 
 pub size-requires : goal.size-requires
-size-requires c = (fits c.requires.1, c.requires.0)
+size-requires c = record { fits = fits c.requires.writing; standing = c.requires.standing }
 
 pub returns-then-size-out : goal.returns-then-size-out
 returns-then-size-out c L s x = file_refused L s c.args.out.now (∥∥₁_elim x le_prop (λ w. let e = c.size.ensures c.args.met L s w in omega arith))
 
-pub put-file-requires : goal.put-file-requires
-put-file-requires c = (c.requires.0, c.requires.1, λ L s w. let e = c.size.ensures c.args.met L s w in omega arith)
+pub put_file-requires : goal.put_file-requires
+put_file-requires c = record { standing = c.requires.standing; writing = c.requires.writing; always = λ L s w. let e = c.size.ensures c.args.met L s w in omega arith }
 
 pub returns : goal.returns
 returns c L s x =
     file_told L s c.args.out.now _ _ (∥∥₁_elim x le_prop (λ w. let e = c.size.ensures c.args.met L s w in omega arith))
-    (∥∥₁_elim x (ℕ_set _ _) (c.put-file.ensures.size L s)) (∥∥₁_elim x (is_set ℕ_set _ _) (c.put-file.ensures.words L s))
+    (∥∥₁_elim x (ℕ_set _ _) (c.put_file.ensures.size L s)) (∥∥₁_elim x (is_set ℕ_set _ _) (c.put_file.ensures.words L s))

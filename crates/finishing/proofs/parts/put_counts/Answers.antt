@@ -11,7 +11,7 @@ unfolding count_words upto
 loop-k-init c = splice_none 1 c.args.out.now
 
 pub put-requires : goal.put-requires
-put-requires c = (omega arith, omega (arith, c.requires.2 c.loop-k.k (omega arith)))
+put-requires c = (omega arith, omega (arith, c.requires.by_index c.loop-k.k (omega arith)))
 
 pub loop-k-preserved : goal.loop-k-preserved
 unfolding count_words

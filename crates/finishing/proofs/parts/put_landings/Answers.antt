@@ -13,15 +13,15 @@ pub loop-k-init : goal.loop-k-init
 unfolding sum
 loop-k-init c = (omega arith, λ L st. appended_start (λ k. landing_part (raw c.args.rows.now) (L.kind_map k) k) c.args.at c.args.out.now)
 
-pub put-landing-next-requires : goal.put-landing-next-requires
-put-landing-next-requires c =
-    let d = c.requires.1 in
+pub put_landing-next-requires : goal.put_landing-next-requires
+put_landing-next-requires c =
+    let d = c.requires.landed in
     let h = (raw c.args.rows.now).shape in
     let k = d.kinds in
     let n = sum_more (count h) h.kinds c.loop-k.k (omega arith) in
     let t = d.fits.total in
     let i = c.loop-k.invariant.0 in
-    (c.requires.0, d, omega arith, omega arith)
+    record { standing = c.requires.standing; landed = d; k_lt_kinds = omega arith; k_in_bounds = omega arith }
 
 pub loop-k-preserved : goal.loop-k-preserved
 unfolding sum
@@ -31,12 +31,12 @@ loop-k-preserved c =
       omega arith,
       λ L st.
           let n = landings_length (raw c.args.rows.now) L.kind_map c.loop-k.k in
-          appended_put (λ k. landing_part (raw c.args.rows.now) (L.kind_map k) k) c.args.at c.loop-k.next c.loop-k.k _ _ _ (omega arith) (omega arith) (c.loop-k.invariant.1 L st) (c.put-landing-next.ensures.words L st),
+          appended_put (λ k. landing_part (raw c.args.rows.now) (L.kind_map k) k) c.args.at c.loop-k.next c.loop-k.k _ _ _ (omega arith) (omega arith) (c.loop-k.invariant.1 L st) (c.put_landing-next.ensures.words L st),
     )
 
 pub returns : goal.returns
 returns c =
-    let d = c.requires.1 in
+    let d = c.requires.landed in
     let h = (raw c.args.rows.now).shape in
     let e : c.loop-k.k ≡ h.kinds = omega (arith, d.kinds) in
     record {

@@ -10,12 +10,12 @@ pub loop-q-init : goal.loop-q-init
 unfolding landed_words upto
 loop-q-init c = splice_none c.args.at c.args.out.now
 
-pub number-in-requires : goal.number-in-requires
-number-in-requires c = (c.requires.0, c.requires.1 c.loop-q.q (omega arith))
+pub number_in-requires : goal.number_in-requires
+number_in-requires c = record { fits_2 = c.requires.fits; numbered = c.requires.by_index c.loop-q.q (omega arith) }
 
 pub put-requires : goal.put-requires
-put-requires c = (omega arith, omega (arith, c.number-in.ensures.fits))
+put-requires c = (omega arith, omega (arith, c.number_in.ensures.fits))
 
 pub loop-q-preserved : goal.loop-q-preserved
 unfolding landed_words
-loop-q-preserved c = tagged_more tag.Record _ c.args.at c.loop-q.q _ _ _ _ (omega arith) c.number-in.ensures.is c.loop-q.invariant c.put.ensures
+loop-q-preserved c = tagged_more tag.Record _ c.args.at c.loop-q.q _ _ _ _ (omega arith) c.number_in.ensures.is c.loop-q.invariant c.put.ensures

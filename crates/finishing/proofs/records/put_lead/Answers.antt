@@ -12,18 +12,18 @@ returns-then-kind-from c =
     let e = lead_none (raw c.args.rows.now) c.args.from c.args.link c.args.i c.read-e.result c.read-e.ensures (λ k. c.if-kind-from.true (c.kind.ensures ∙ k)) in
     record { next = omega (arith, ap length e); words = splice_none c.args.at c.args.out.now ∙ ap (λ x. spliced c.args.at x c.args.out.now) (sym e) }
 
-pub number-in-n-requires : goal.number-in-n-requires
-number-in-n-requires c = (c.requires.0.fits, lead_numbered (raw c.args.rows.now) c.args.from c.args.link c.args.i c.read-e.result c.read-e.ensures (c.args.i + 1) c.requires.0 (omega arith) (sym c.kind.ensures ∙ c.if-kind-from.false))
+pub number_in-n-requires : goal.number_in-n-requires
+number_in-n-requires c = record { fits_2 = c.requires.led.fits; numbered = lead_numbered (raw c.args.rows.now) c.args.from c.args.link c.args.i c.read-e.result c.read-e.ensures (c.args.i + 1) c.requires.led (omega arith) (sym c.kind.ensures ∙ c.if-kind-from.false) }
 
 pub put-requires : goal.put-requires
 put-requires c =
     let e = lead_some (raw c.args.rows.now) c.args.from c.args.link c.args.i c.read-e.result c.read-e.ensures (sym c.kind.ensures ∙ c.if-kind-from.false) in
-    (omega (arith, ap length e), omega (arith, c.number-in-n.ensures.fits))
+    (omega (arith, ap length e), omega (arith, c.number_in-n.ensures.fits))
 
 pub returns : goal.returns
 returns c =
     let e = lead_some (raw c.args.rows.now) c.args.from c.args.link c.args.i c.read-e.result c.read-e.ensures (sym c.kind.ensures ∙ c.if-kind-from.false) in
     record {
       next = omega (arith, ap length e);
-      words = c.put.ensures ∙ ap (λ n. spliced c.args.at (tagged tag.Record n ∷ []) c.args.out.now) c.number-in-n.ensures.is ∙ ap (λ x. spliced c.args.at x c.args.out.now) (sym e);
+      words = c.put.ensures ∙ ap (λ n. spliced c.args.at (tagged tag.Record n ∷ []) c.args.out.now) c.number_in-n.ensures.is ∙ ap (λ x. spliced c.args.at x c.args.out.now) (sym e);
     }

@@ -8,14 +8,14 @@ use Rattle.finishing.proofs.records.put_leads.Goals as goal
 pub loop-i-init : goal.loop-i-init
 loop-i-init c = let f = lead_word (raw c.args.rows.now) c.args.from c.args.link in (omega (arith, appended_none f), appended_start f c.args.at c.args.out.now)
 
-pub put-lead-next-requires : goal.put-lead-next-requires
-put-lead-next-requires c =
+pub put_lead-next-requires : goal.put_lead-next-requires
+put_lead-next-requires c =
     let f = lead_word (raw c.args.rows.now) c.args.from c.args.link in
     let n = appended_room f c.loop-i.i c.args.met (omega arith) in
-    (led_first _ _ _ _ _ (omega arith) c.requires.0, omega arith)
+    record { led = led_first _ _ _ _ _ (omega arith) c.requires.led; i_in_bounds = omega arith }
 
 pub loop-i-preserved : goal.loop-i-preserved
 loop-i-preserved c =
     let f = lead_word (raw c.args.rows.now) c.args.from c.args.link in
     let n = appended_length f c.loop-i.i in
-    (omega arith, appended_put f c.args.at c.loop-i.next c.loop-i.i _ _ _ (omega arith) c.loop-i.invariant.0 c.loop-i.invariant.1 c.put-lead-next.ensures.words)
+    (omega arith, appended_put f c.args.at c.loop-i.next c.loop-i.i _ _ _ (omega arith) c.loop-i.invariant.0 c.loop-i.invariant.1 c.put_lead-next.ensures.words)

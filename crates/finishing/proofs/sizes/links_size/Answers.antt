@@ -9,19 +9,19 @@ use Rattle.finishing.proofs.sizes.links_size.Goals as goal
 pub loop-l-init : goal.loop-l-init
 loop-l-init c = (λ met L s w. sym (appended_none (link_part L s)), omega arith)
 
-pub overflow-add-total : goal.overflow-add-total
-overflow-add-total c =
+pub overflow_add-total : goal.overflow_add-total
+overflow_add-total c =
     let n = few_links c.requires.0 (raw c.args.rows.now) c.args.found.now c.requires.1 in
-    omega (arith, c.loop-l.invariant.1, c.link-size-total.ensures.fits, n, c.requires.1.links)
+    omega (arith, c.loop-l.invariant.1, c.link_size-total.ensures.fits, n, c.requires.1.links)
 
 pub loop-l-preserved : goal.loop-l-preserved
 loop-l-preserved c = (
   λ met L s w.
       let n = appended_length (link_part L s) c.loop-l.l in
       let i = c.loop-l.invariant.0 met L s w in
-      let e = c.link-size-total.ensures.words met L s w in
+      let e = c.link_size-total.ensures.words met L s w in
       omega arith,
-  omega (arith, c.loop-l.invariant.1, c.link-size-total.ensures.fits),
+  omega (arith, c.loop-l.invariant.1, c.link_size-total.ensures.fits),
 )
 
 pub returns : goal.returns
