@@ -12,25 +12,40 @@ use Rattle.table.specs.declared.table.Table.{Table}
 use Rattle.rows.proofs.Bridge.{tidy_start}
 
 abbrev pub Ghosts : Rows → Found → List ℕ → Bool → Type 0
-Ghosts rows found leads loaded =
-    (rows.lands + rows.records ≤ rows.base)
-    × ((rows.base + rows.capacity * (rows.links + 3) ≤ length rows.words.now)
-    × ((rows.given ≤ rows.capacity)
-    × ((rows.capacity < 65536)
-    × ((rows.links ≤ 64)
-    × ((rows.records < 4096)
-    × ((rows.source.kinds ≤ 32)
-    × (((k : ℕ) → k < rows.source.kinds → get_or rows.source.starts k 0 ≡ rows.lands + sum (count (raw rows).shape) k)
-    × ((rows.records ≡ sum (count (raw rows).shape) rows.source.kinds)
-    × (((x : ℕ) → (view rows).forward x ≤ x)
-    × (((t : Slot) (w : ℕ) → (view rows).held t ≡ Some w → w < rows.given)
-    × ((rows.front + rows.waits + rank (view rows).forward rows.given ≡ rows.given)
-    × ((loaded ≡ true → ∥ Reached leads found (raw rows) ∥₁) × Unit {0}))))))))))))
+Ghosts rows found leads loaded = record {
+  below : rows.lands + rows.records ≤ rows.base;
+  room : rows.base + rows.capacity * (rows.links + 3) ≤ length rows.words.now;
+  few : rows.given ≤ rows.capacity;
+  small : rows.capacity < 65536;
+  narrow : rows.links ≤ 64;
+  lot : rows.records < 4096;
+  sorts : rows.source.kinds ≤ 32;
+  stacked : (k : ℕ) → k < rows.source.kinds → get_or rows.source.starts k 0 ≡ rows.lands + sum (count (raw rows).shape) k;
+  total : rows.records ≡ sum (count (raw rows).shape) rows.source.kinds;
+  lower : (x : ℕ) → (view rows).forward x ≤ x;
+  held : (t : Slot) (w : ℕ) → (view rows).held t ≡ Some w → w < rows.given;
+  queued : rows.front + rows.waits + rank (view rows).forward rows.given ≡ rows.given;
+  reached : loaded ≡ true → ∥ Reached leads found (raw rows) ∥₁;
+}
 
 pub ghosts : (rows : Rows) (found : Found) (leads : List ℕ) (loaded : Bool) → Tidy (raw rows) → (loaded ≡ true → ∥ Reached leads found (raw rows) ∥₁) → Ghosts rows found leads loaded
 ghosts rows found leads loaded t r =
     let f = t.fits in
-    (f.below, (f.room, (f.few, (f.small, (f.narrow, (f.lot, (f.sorts, (f.stacked, (f.total, (t.lower, (t.given, (t.queued, (r, tt)))))))))))))
+    record {
+      below = f.below;
+      room = f.room;
+      few = f.few;
+      small = f.small;
+      narrow = f.narrow;
+      lot = f.lot;
+      sorts = f.sorts;
+      stacked = f.stacked;
+      total = f.total;
+      lower = t.lower;
+      held = t.given;
+      queued = t.queued;
+      reached = r;
+    }
 
 pub tidy : (t : Table) → Tidy (raw t.rows)
 tidy t = record {

@@ -1,5 +1,5 @@
 -- The ghost facts of a table after a load.
-use Rattle.std.proofs.Common.{◌≡◌, ℕ, true, false, List, [], length, sym, ap, ◌∙◌, subst, arith, Bor}
+use Rattle.std.proofs.Common.{◌≡◌, ℕ, true, false, List, [], length, sym, ap, ◌∙◌, subst, arith, MutBor}
 use Rattle.problems.specs.Problem.{read}
 use Rattle.problems.specs.Shown.{outline_of}
 use Rattle.registers.specs.Meaning.{Meaning}
@@ -18,8 +18,8 @@ use Rattle.table.proofs.Ghosts.{Ghosts, ghosts, tidy}
 use Rattle.table.proofs.Promises.{promised_by}
 
 -- the rows over other words, and with the numbers of a load
-abbrev lent : Rows → List ℕ → Bor (List ℕ)
-lent r ws = record { ref_ptr = r.words.ptr; ghost_name = r.words.name; now = ws }
+abbrev lent : Rows → List ℕ → MutBor (List ℕ)
+lent r ws = record { ref_ptr = r.words.ref_ptr; ghost_name = r.words.ghost_name; now = ws }
 
 abbrev relent : Rows → List ℕ → Rows
 relent r ws = record {

@@ -6,11 +6,11 @@ use Rattle.table.proofs.After.{holds, still, called}
 use Rattle.table.proofs.Ghosts.{tidy}
 use Rattle.table.proofs.table.Table.check_rule.Goals as goal
 
-pub check-rule-requires : goal.check-rule-requires
-check-rule-requires c = let t = c.args.self.now in (tidy t, (took t, (holds t c.if-not-self.false).stands))
+pub check_rule-requires : goal.check_rule-requires
+check_rule-requires c = let t = c.args.self.now in record { tidy = tidy t; standing = (took t, (holds t c.if-not-self.false).stands) }
 
-pub invariant-of-self : goal.invariant-of-self
-invariant-of-self c =
+pub invariant_of-self : goal.invariant_of-self
+invariant_of-self c =
     let t = c.args.self.now in
     let h = c.if-not-self.false in
     still t h c.check_rule.new.self (check_rule c.args.e c.args.i) (c.check_rule.ensures.after (took t) (holds t h).stands)

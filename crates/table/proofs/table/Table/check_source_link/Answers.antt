@@ -8,13 +8,13 @@ use Rattle.table.proofs.Ghosts.{tidy}
 use Rattle.table.proofs.table.Table.check_source_link.Goals as goal
 
 pub lead-lead-requires : goal.lead-lead-requires
-lead-lead-requires c = let t = c.args.self.now in ((tidy t).fits, (took t, holds t c.if-not-self.false))
+lead-lead-requires c = let t = c.args.self.now in record { fits = (tidy t).fits; holding = (took t, holds t c.if-not-self.false) }
 
-pub check-link-requires : goal.check-link-requires
-check-link-requires c = let t = c.args.self.now in (tidy t, (took t, c.lead-lead.ensures.led (took t) (holds t c.if-not-self.false)))
+pub check_link-requires : goal.check_link-requires
+check_link-requires c = let t = c.args.self.now in record { tidy = tidy t; leading = (took t, c.lead-lead.ensures.led (took t) (holds t c.if-not-self.false)) }
 
-pub invariant-of-self : goal.invariant-of-self
-invariant-of-self c =
+pub invariant_of-self : goal.invariant_of-self
+invariant_of-self c =
     let t = c.args.self.now in
     let h = c.if-not-self.false in
     still t h c.check_link.new.self (check_link c.args.i c.lead-lead.result.q) (c.check_link.ensures.after (took t) (c.lead-lead.ensures.led (took t) (holds t h)))

@@ -3,8 +3,8 @@ use Rattle.rows.specs.declared.Rows.{Rows}
 use Rattle.table.proofs.Ghosts.{ghosts, tidy_open}
 use Rattle.table.proofs.table.Table.open.Goals as goal
 
-pub invariant-of-result : goal.invariant-of-result
-invariant-of-result c =
+pub invariant_of-result : goal.invariant_of-result
+invariant_of-result c =
     let rows : Rows = record {
       words = c.args.words;
       source = record { kinds = 0; counts = replicate 32 0; starts = replicate 32 0 };

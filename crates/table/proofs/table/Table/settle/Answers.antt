@@ -16,10 +16,10 @@ pub settle-requires : goal.settle-requires
 settle-requires c =
     let t = c.args.self.now in
     let some : 0 < t.rows.waits = omega (arith, c.if-self-eq0.false) in
-    (tidy t, some, first_known t c.if-not-self.false some)
+    record { tidy = tidy t; waits_nonzero = some; self_bound = first_known t c.if-not-self.false some }
 
-pub invariant-of-self : goal.invariant-of-self
-invariant-of-self c =
+pub invariant_of-self : goal.invariant_of-self
+invariant_of-self c =
     let t = c.args.self.now in
     let h = c.if-not-self.false in
     let some : 0 < t.rows.waits = omega (arith, c.if-self-eq0.false) in

@@ -16,8 +16,8 @@ returns-then-self-gt0 c = let t = c.args.self.now in left t (busy t.leads (raw t
 pub sweep-requires : goal.sweep-requires
 sweep-requires c = let t = c.args.self.now in record { tidy = tidy t; quiet = omega (arith, c.if-self-gt0.false); live = held_live t c.if-not-self.false (omega (arith, c.if-self-gt0.false)) }
 
-pub invariant-of-self : goal.invariant-of-self
-invariant-of-self c =
+pub invariant_of-self : goal.invariant_of-self
+invariant_of-self c =
     let t = c.args.self.now in
     still t c.if-not-self.false c.sweep.new.self sweep (sweeping (took t) (raw t.rows) (raw c.sweep.new.self) c.if-self-gt0.false c.sweep.ensures.becomes)
 
