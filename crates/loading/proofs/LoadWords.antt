@@ -1,8 +1,7 @@
 -- The words after an accepted load.
-use Rattle.std.proofs.Common.{◌≡◌, ℕ, zero, suc, ◌+◌, ◌-◌, ◌*◌, ◌<◌, ◌≤◌, true, false, cond, ◌&&◌, ltb, ◌⊎◌, List, [], ◌∷◌, ◌++◌, length, get_or, take, drop, Some, None, Ok, Option, sym, refl, ap, ◌∙◌, subst, inl, inr, arith, length-append, length-drop}
+use Rattle.std.proofs.Common.{◌≡◌, ℕ, ◌+◌, ◌<◌, ◌≤◌, true, List, ◌++◌, length, get_or, take, drop, Some, None, Ok, sym, refl, ap, ◌∙◌, subst, inl, inr, arith, length-append, length-drop}
 use Rattle.std.proofs.lemmas.List.{append_assoc, get_or_append_left, get_or-append-add, take_at, drop_at}
 use Rattle.std.proofs.lemmas.Bool.{lt-ltb, le-ltb, cases_lt, cases_Bool}
-use Rattle.problems.specs.Problem.{Problem}
 use Rattle.registers.specs.Meaning.{Meaning}
 use Rattle.registers.specs.Splices.{spliced}
 use Rattle.registers.specs.Writing.{upto, lead}
@@ -13,7 +12,7 @@ use Rattle.machine.specs.Promise.{TakenFrom}
 use Rattle.machine.specs.State.{Slot, cell, landing, start}
 use Rattle.machine.specs.Sweeping.{rank}
 use Rattle.machine.proofs.Loads.{taken_from}
-use Rattle.rows.specs.Layout.{Raw, Fits, Tidy, Within, inside, spot, count, decode, shown, kind_of, forward_of, waiting_of}
+use Rattle.rows.specs.Layout.{Raw, Fits, Tidy, inside, spot, count, decode, shown, kind_of, forward_of, waiting_of}
 use Rattle.loading.specs.LoadedWords.{problem_in, problem_of, leaving, lead_words, ends_copied, count_copied, lead_copied, copy_by, copy, PlacedBy, taken_shown}
 use Rattle.loading.specs.Taking.{fresh, Planned, TakenIn}
 use Rattle.loading.specs.declared.Loading.{Loading}

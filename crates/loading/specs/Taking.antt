@@ -7,7 +7,7 @@ use Rattle.registers.specs.Writing.{upto}
 use Rattle.machine.specs.declared.answers.LoadFault.{LoadFault}
 use Rattle.machine.specs.Loading.{sum, taken, load}
 use Rattle.machine.specs.State.{start}
-use Rattle.rows.specs.Layout.{Shape, Raw, Fits, Tidy, Carries, shown}
+use Rattle.rows.specs.Layout.{Shape, Raw, Tidy, Carries, shown}
 use Rattle.loading.specs.LoadedWords.{problem_in, Sourced, leaving, copy, Placed, taken_shown}
 use Rattle.loading.specs.declared.Loading.{Loading}
 

@@ -1,5 +1,6 @@
 // The load of an opened table: every test first, then the copies of the problem and of the source.
 #![tactic(auto)]
+
 ghost use Rattle.std.specs.Prelude.{◌≡◌, ◌+◌, ◌/◌, ◌≤◌, min};
 ghost use Rattle.loading.specs.Taking.{Plans, Takes};
 

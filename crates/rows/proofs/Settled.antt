@@ -2,7 +2,7 @@
 use Rattle.std.proofs.Common.{◌≡◌, ℕ, zero, suc, ◌<◌, ◌≤◌, true, false, ltb, List, [], ◌∷◌, length, get_or, Some, None, sym, refl, ap, ◌∙◌, arith, length-append}
 use Rattle.std.proofs.lemmas.Bool.Decides.{nat_tests}
 use Rattle.machine.specs.Loaded.{Loaded}
-use Rattle.machine.specs.State.{State, cell, hold, on}
+use Rattle.machine.specs.State.{State, cell, hold}
 use Rattle.machine.specs.Merging.{end, die, meet, merge}
 use Rattle.machine.specs.Settling.{rehold, take_over, pull, drain, pop, settled_first, settled}
 use Rattle.machine.proofs.Base.{chase_lives, chase_lower}

@@ -122,10 +122,10 @@ module _ (r : Raw) (fits : Fits r) (k : ℕ) (free : r.given < r.shape.capacity)
       let a1 = word_set r.ws r.shape.base r.shape.links r.given 0 k x y (fit 0 (omega arith)) (omega arith) hy in
       let f1 = fit 1 (omega arith) in
       let a2 : word named r.shape.base r.shape.links x y ≡ cond (eqb x r.given && eqb y 1) r.given (word (set r.ws (at 0) k) r.shape.base r.shape.links x y) =
-        word_set (set r.ws (at 0) k) r.shape.base r.shape.links r.given 1 r.given x y (omega arith) (omega arith) hy in
+      word_set (set r.ws (at 0) k) r.shape.base r.shape.links r.given 1 r.given x y (omega arith) (omega arith) hy in
       let a3 : word grown r.shape.base r.shape.links x y ≡
-          cond (eqb x r.given && (leb 3 y && ltb y (3 + r.shape.links))) (emptied (word named r.shape.base r.shape.links x y)) (word named r.shape.base r.shape.links x y) =
-        word_changed emptied named r.shape.base r.shape.links r.given r.shape.links x y cells_fit (omega arith) hy in
+      cond (eqb x r.given && (leb 3 y && ltb y (3 + r.shape.links))) (emptied (word named r.shape.base r.shape.links x y)) (word named r.shape.base r.shape.links x y) =
+      word_changed emptied named r.shape.base r.shape.links r.given r.shape.links x y cells_fit (omega arith) hy in
       grind (arith, nat_tests)
 
   held_grown : (t : Slot) → (shown (with r grown (r.given + 1) r.waits)).held t ≡ (shown r).held t

@@ -1,5 +1,6 @@
 // A table in lent work words, as rows of words. Nothing here is an invariant: each function says what it needs.
 #![tactic(auto)]
+
 ghost use Rattle.std.specs.Prelude.{◌≡◌, ◌+◌, ◌-◌, ◌*◌, ◌<◌, ◌≤◌, length, Some, None, slice_index};
 ghost use Rattle.machine.specs.State.{cell, landing, lives, hold, born};
 ghost use Rattle.machine.specs.Merging.{end, die};

@@ -1,17 +1,16 @@
 -- From what each call tells to the answer as a whole.
-use Rattle.std.proofs.Common.{◌≡◌, ℕ, ◌+◌, ◌*◌, ◌/◌, ◌^◌, ◌<◌, ◌≤◌, min, Bool, true, false, cond, leb, List, [], ◌∷◌, ◌++◌, length, get_or, take, drop, IsErrAnd, Ok, Err, Result, sym, refl, ap, ◌∙◌, subst, arith, le-ltb, leb-true}
-use Rattle.std.proofs.lemmas.List.{take_all, take_at, length-take-le}
-use Rattle.words.specs.declared.faults.Fault.{Fault}
+use Rattle.std.proofs.Common.{◌≡◌, ℕ, ◌/◌, ◌≤◌, min, Bool, true, false, cond, leb, List, [], ◌++◌, length, take, drop, Ok, Err, Result, sym, refl, ap, ◌∙◌, subst, arith, le-ltb, leb-true}
+use Rattle.std.proofs.lemmas.List.{take_at}
 use Rattle.words.specs.declared.faults.SchemaFault.{SchemaFault}
 use Rattle.words.specs.declared.faults.Refusal.TheVariants.{Limit}
 use Rattle.words.specs.Faults.{fault_of, schema_fault}
-use Rattle.words.specs.Words.{tag, then, giving}
+use Rattle.words.specs.Words.{then, giving}
 use Rattle.register_files.specs.Register.{File, read}
 use Rattle.registers.specs.declared.writing.WriteFault.{WriteFault}
 use Rattle.registers.specs.declared.writing.WriteFault.TheVariants.{Memory}
 use Rattle.registers.specs.Holding.{kept}
 use Rattle.registers.specs.Writing.{put, in_room}
-use Rattle.streams.specs.Order.{bytes_of, words_of}
+use Rattle.streams.specs.Order.{words_of}
 use Rattle.streams.specs.Sending.{whole, faulted}
 use Rattle.streams.specs.Unblank.{within, unblanked, answer}
 use Rattle.streams.proofs.Sending.{apart, all_read, taken, refused}

@@ -1,4 +1,4 @@
-use Rattle.std.proofs.Common.{◌≡◌, ◌+◌, ◌-◌, ◌≤◌, length, refl, ap, ◌∙◌, arith}
+use Rattle.std.proofs.Common.{◌≡◌, ◌+◌, ◌-◌, length, refl, ap, ◌∙◌, arith}
 use Rattle.machine.specs.Loading.{sum}
 use Rattle.loading.specs.LoadedWords.{problem_in, leaving}
 use Rattle.loading.proofs.LoadSource.{sourced, targets, refused_shape, refused_large, refused_leads, refused_memory, planned}
