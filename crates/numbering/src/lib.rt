@@ -1,6 +1,7 @@
 // The numbering of finish, in the rows of a table: the entries are met in the machine's sequence, which is written into the slots of the
 // waiting list, and the number of an entry within its kind into the place of its forward.
 #![tactic(auto)]
+
 ghost use Rattle.std.specs.Prelude.{◌≡◌, ℕ, ◌+◌, ◌<◌, List, [], ◌∷◌, ◌++◌, length};
 ghost use Rattle.machine.specs.Loaded.{Loaded};
 ghost use Rattle.machine.specs.Sequence.{met_in, of_kind, of_cells, sequence};

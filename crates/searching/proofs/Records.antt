@@ -1,5 +1,5 @@
 -- The records that a source link leaves, and what its check finds at one of them.
-use Rattle.std.proofs.Common.{◌≡◌, ℕ, ◌<◌, true, ◌&&◌, ltb, List, ap, ◌∙◌, subst, arith}
+use Rattle.std.proofs.Common.{◌≡◌, ℕ, ◌<◌, true, ◌&&◌, ltb, List, ap, ◌∙◌, arith}
 use Rattle.std.proofs.lemmas.Bool.Decides.{nat_tests}
 use Rattle.problems.specs.declared.Found.{Found}
 use Rattle.machine.specs.Loaded.{Loaded}

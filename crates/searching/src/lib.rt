@@ -1,5 +1,6 @@
 // What a step of a shift does next.
 #![tactic(auto)]
+
 ghost use Rattle.std.specs.Prelude.{◌≡◌};
 ghost use Rattle.machine.specs.Shift as shift;
 ghost use Rattle.rows.specs.Layout.{Fits};
