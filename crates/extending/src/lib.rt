@@ -1,5 +1,6 @@
 // A problem and a register come in as bytes, and the register that the problem carries it to goes out.
 #![tactic(auto)]
+
 ghost use Rattle.std.specs.Prelude.{◌≡◌};
 ghost use Rattle.extending.specs.Extend.{problem_size};
 

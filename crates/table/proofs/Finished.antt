@@ -1,5 +1,5 @@
 -- Finishing a table: what is refused, what is ready, and what is read back.
-use Rattle.std.proofs.Common.{◌≡◌, ℕ, ◌<◌, Bool, true, false, cond, ltb, List, length, take, is_some, Some, None, Ok, Err, Option, Result, sym, refl, ap, ◌∙◌, subst, arith}
+use Rattle.std.proofs.Common.{◌≡◌, ℕ, ◌<◌, Bool, true, false, cond, List, length, take, is_some, Some, None, Err, Option, Result, sym, refl, ap, ◌∙◌, subst, arith}
 use mathlib.Core.Logic.{∥∥₁_map}
 use Rattle.std.proofs.lemmas.Bool.{lt-ltb, le-ltb}
 use Rattle.words.specs.declared.faults.Refusal.{Refusal}
@@ -7,7 +7,7 @@ use Rattle.words.specs.declared.faults.Refusal.TheVariants as refusal
 use Rattle.register_files.specs.Register.{read}
 use Rattle.machine.specs.State.{State}
 use Rattle.machine.specs.Shift.{next}
-use Rattle.machine.specs.Finish.{finished_file, finish_words, unfinished, finish_fault, put_words}
+use Rattle.machine.specs.Finish.{finish_words, unfinished, finish_fault, put_words}
 use Rattle.machine.specs.Progress.{finish_call}
 use Rattle.machine.specs.ReadBack.{ReadsBack}
 use Rattle.machine.proofs.Promised.{put_told}
@@ -16,7 +16,7 @@ use Rattle.rows.specs.View.{raw, view}
 use Rattle.rows.proofs.Faults.{waits_told}
 use Rattle.searching.specs.declared.Task.{Task}
 use Rattle.searching.specs.Tasks.{shown_task}
-use Rattle.numbering.specs.Marked.{Countable, Ready}
+use Rattle.numbering.specs.Marked.{Countable}
 use Rattle.numbering.proofs.Ready.{ready, countable, countable_in}
 use Rattle.finishing.specs.Written.{Finishes}
 use Rattle.table.specs.Reached.{Reached}

@@ -4,7 +4,7 @@ use Rattle.machine.specs.declared.answers.Ending.{Ending}
 use Rattle.machine.specs.Loaded.{Loaded}
 use Rattle.machine.specs.State.{State}
 use Rattle.machine.specs.Calls.{Op}
-use Rattle.machine.specs.Shift.{End, Todo, does, ends, to_do, next, plan, Stepped, carry_out, step, shift}
+use Rattle.machine.specs.Shift.{End, Todo, does, ends, next, plan, Stepped, carry_out, step, shift}
 use Rattle.machine.specs.Tables.{Table, opened, holding}
 use Rattle.machine.specs.Progress.{Progress, going, over, progress, stepped, step_call}
 use Rattle.table.specs.Played.{shift_call}

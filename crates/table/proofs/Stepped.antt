@@ -1,9 +1,9 @@
 -- A step by what it plans to do.
-use Rattle.std.proofs.Common.{◌≡◌, ℕ, ◌+◌, ◌-◌, Bool, true, Ok, Err, sym, refl, ap, ◌∙◌, subst, add-one, sub-one, arith}
+use Rattle.std.proofs.Common.{◌≡◌, ℕ, ◌+◌, ◌-◌, Bool, true, Ok, Err, sym, refl, ◌∙◌, subst, add-one, sub-one, arith}
 use Rattle.machine.specs.declared.answers.Ending.{Ending}
 use Rattle.machine.specs.Loaded.{Loaded}
 use Rattle.machine.specs.State.{State}
-use Rattle.machine.specs.Calls.{Op, apply}
+use Rattle.machine.specs.Calls.{Op}
 use Rattle.machine.specs.Progress.{Progress, going, over, stepped, step_call}
 use Rattle.machine.specs.Shift.{Todo, does, ends, carry_out, plan, next, step}
 use Rattle.machine.specs.Tables.{Table, holding}

@@ -1,3 +1,4 @@
 // A coset table over lent work words.
 #![tactic(auto)]
+
 pub mod table;

@@ -11,10 +11,14 @@ pub put_counts-requires : goal.put_counts-requires
 put_counts-requires c = let n = head_room c.requires.writing _ c.requires.always in record { kinds_bound = kinds_known c.requires.writing; kinds_in_bounds = omega arith; by_index = counts_known c.requires.writing }
 
 pub put_links-next-requires : goal.put_links-next-requires
-put_links-next-requires c = record { standing = c.requires.standing; writing = c.requires.writing; always = λ L s w.
+put_links-next-requires c = record {
+  standing = c.requires.standing;
+  writing = c.requires.writing;
+  always = λ L s w.
       let n = file_length L s (raw c.args.rows.now) c.args.found.now c.args.met c.args.counts.now w in
       let r = c.requires.always L s w in
-      omega arith }
+      omega arith;
+}
 
 pub put_landings-end-requires : goal.put_landings-end-requires
 put_landings-end-requires c = let n = end_room c.requires.writing _ _ c.put_links-next.ensures.next c.requires.always in record { standing = c.requires.standing; landed = landed c.requires.writing; records_in_bounds = omega (arith, n.0) }

@@ -7,11 +7,16 @@ pub loop-l-init : goal.loop-l-init
 loop-l-init c = (λ L s w. omega (arith, appended_none (link_part L s)), λ L s w. appended_start (link_part L s) c.args.at c.args.out.now)
 
 pub put_link-next-requires : goal.put_link-next-requires
-put_link-next-requires c = record { standing = c.requires.standing; writing = c.requires.writing; l_lt_links = omega arith; always = λ L s w.
+put_link-next-requires c = record {
+  standing = c.requires.standing;
+  writing = c.requires.writing;
+  l_lt_links = omega arith;
+  always = λ L s w.
       let n = appended_room (link_part L s) c.loop-l.l c.args.rows.now.links (omega arith) in
       let r = c.requires.always L s w in
       let i = c.loop-l.invariant.0 L s w in
-      omega arith }
+      omega arith;
+}
 
 pub loop-l-preserved : goal.loop-l-preserved
 loop-l-preserved c = (
