@@ -1,5 +1,6 @@
 // Plays families of growing problems and prints entries, steps and time. Without an argument it only says how it is called.
 #![tactic(auto)]
+
 use crate::families::{carried, chain, torus};
 use registers::register::Register;
 use registers::wheel::Wheel;

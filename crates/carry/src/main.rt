@@ -1,5 +1,6 @@
 // Carries a register as `extend` does, and tells in text what was done.
 #![tactic(auto)]
+
 use crate::telling::{tell_fault, tell_register, tell_schema, tell_source, tell_words};
 use extending::problem_size;
 use machine::answers::Ending;

@@ -1,5 +1,6 @@
 // Reads a register file with blanks from the standard input, and writes it without them to the standard output.
 #![tactic(auto)]
+
 use std::io;
 use std::io::Write;
 use streams::input::{LONG, fill};
