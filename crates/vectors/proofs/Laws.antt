@@ -1,7 +1,7 @@
 -- A loose register keeps to the laws of registers.
-use Rattle.std.proofs.Common.{◌≡◌, ℕ, ◌<◌, ◌≤◌, Bool, true, false, cond, ltb, Some, None, Option, sym, refl, ap, ◌∙◌, arith}
+use Rattle.std.proofs.Common.{◌≡◌, ℕ, Bool, true, false, cond, ltb, Some, None, sym, ap, arith}
 use Rattle.std.proofs.lemmas.Bool.Decides.{nat_tests}
-use Rattle.registers.specs.Meaning.{Meaning, Lawful, Given}
+use Rattle.registers.specs.Meaning.{Lawful}
 use Rattle.vectors.specs.Loose.{loose}
 
 ends_from : (b : Bool) (from to : ℕ) (e : ℕ × ℕ) → cond b (Some (from, to)) None ≡ Some e → e.0 ≡ from

@@ -1,5 +1,6 @@
 // Examples of the file formats and of registers, from tables. All of it is for tests.
 #![tactic(auto)]
+
 #[cfg(test)]
 mod answer_tables;
 #[cfg(test)]
