@@ -1,5 +1,6 @@
 // Examples of calls on tables, from tables of rows. All of it is for tests.
 #![tactic(auto)]
+
 #[cfg(test)]
 mod driven_tables;
 #[cfg(test)]
