@@ -12,7 +12,7 @@ use words::tags::Tag;
 
 // The number of the entry that the slot `t` holds.
 fn number_in(rows: &Rows, t: Slot) -> u32
-    requires fits_2 { Fits (raw rows.now) }
+    requires rows_fit { Fits (raw rows.now) }
     requires numbered { Numbered (raw rows.now) (slot t) }
     ensures is { result ≡ number_in (raw rows.now) (slot t) }
     ensures fits { result < 65536 }

@@ -61,7 +61,7 @@ fn clear(words: &mut [u32], at: usize, n: usize)
 impl Rows<'_> {
     // The place of word `j` of entry `e`.
     pub fn at(&self, e: usize, j: usize) -> usize
-        requires fits_2 { Fits (raw self.now) }
+        requires rows_fit { Fits (raw self.now) }
         requires e_lt_capacity { e < self.now.capacity }
         requires j_bound { j < self.now.links + 3 }
         ensures is { result ≡ place.at self.now e j }
@@ -94,7 +94,7 @@ impl Rows<'_> {
 
     // The place of the word of the slot `t`.
     fn place(&self, t: Slot) -> usize
-        requires fits_2 { Fits (raw self.now) }
+        requires rows_fit { Fits (raw self.now) }
         requires has { Has self.now t }
         ensures is { result ≡ spot (raw self.now).shape (slot t) }
         ensures fits { result < length self.now.words.now }
@@ -230,7 +230,7 @@ impl Rows<'_> {
         requires tidy { Tidy (raw self.old) }
         requires v_lt_given { v < self.old.given }
         requires u_lt_v { u < v }
-        requires v_value { (view self.old).forward v ≡ v }
+        requires v_lives { (view self.old).forward v ≡ v }
         ensures { Becomes (raw self.old) (die v u) (raw self.new) }
     {
         let at = self.at(v as usize, 1);

@@ -119,7 +119,7 @@ impl Rows<'_> {
     pub fn settle(&mut self)
         requires tidy { Tidy (raw self.old) }
         requires waits_nonzero { 0 < self.old.waits }
-        requires self_bound { slice_index (view self.old).waiting 0 < self.old.given }
+        requires first_known { slice_index (view self.old).waiting 0 < self.old.given }
         ensures { (L : Loaded) → L.links ≡ self.old.links → Becomes (raw self.old) (settled L) (raw self.new) }
     {
         let v = self.first();

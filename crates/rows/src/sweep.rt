@@ -14,8 +14,8 @@ impl Rows<'_> {
     fn number_one(&mut self, e: usize, k: usize) -> usize
         requires still { Still (raw self.old) }
         requires e_lt_given { e < self.old.given }
-        requires k_value { k ≡ rank (view self.old).forward e }
-        requires ranked_2 { Ranked (raw self.old) e }
+        requires k_ranks { k ≡ rank (view self.old).forward e }
+        requires forward_ranked { Ranked (raw self.old) e }
         ensures goes { Goes (raw self.old) (λ s. s) (raw self.new) }
         ensures ranked { Ranked (raw self.new) (e + 1) }
         ensures is { result ≡ rank (view self.old).forward (e + 1) }
@@ -41,7 +41,7 @@ impl Rows<'_> {
     // What the slot `t` holds gets its new number.
     fn rename(&mut self, t: Slot)
         requires still { Still (raw self.old) }
-        requires ranked_2 { Ranked (raw self.old) self.old.given }
+        requires forward_ranked { Ranked (raw self.old) self.old.given }
         requires has { Has self.old t }
         ensures goes { Goes (raw self.old) (renames (λ u. same u (slot t))) (raw self.new) }
         ensures ranked { Ranked (raw self.new) self.new.given }
@@ -56,7 +56,7 @@ impl Rows<'_> {
     // What the cells of `e` hold is renamed.
     fn rename_row(&mut self, e: u32)
         requires still { Still (raw self.old) }
-        requires ranked_2 { Ranked (raw self.old) self.old.given }
+        requires forward_ranked { Ranked (raw self.old) self.old.given }
         requires e_lt_given { e < self.old.given }
         ensures goes { Goes (raw self.old) (renames (in_row e self.old.links)) (raw self.new) }
         ensures ranked { Ranked (raw self.new) self.new.given }
@@ -70,7 +70,7 @@ impl Rows<'_> {
     // What the cells hold is renamed.
     fn rename_cells(&mut self)
         requires still { Still (raw self.old) }
-        requires ranked_2 { Ranked (raw self.old) self.old.given }
+        requires forward_ranked { Ranked (raw self.old) self.old.given }
         ensures goes { Goes (raw self.old) (renames (in_rows self.old.given self.old.links)) (raw self.new) }
         ensures ranked { Ranked (raw self.new) self.new.given }
     {
@@ -83,7 +83,7 @@ impl Rows<'_> {
     // What the landings of the source kind `k` hold is renamed.
     fn rename_kind(&mut self, k: u32)
         requires still { Still (raw self.old) }
-        requires ranked_2 { Ranked (raw self.old) self.old.given }
+        requires forward_ranked { Ranked (raw self.old) self.old.given }
         requires k_lt_kinds { k < self.old.source.kinds }
         ensures goes { Goes (raw self.old) (renames (in_kind k (count (raw self.old).shape k))) (raw self.new) }
         ensures ranked { Ranked (raw self.new) self.new.given }

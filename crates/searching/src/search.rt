@@ -32,7 +32,7 @@ pub trait Search {
         requires fits { Fits (raw rows.now) }
         requires holding { Holding (raw rows.now) found.now leads.now }
         requires always { Always (raw rows.now) found.now leads.now (within self.now) }
-        requires always_2 { Always (raw rows.now) found.now leads.now (λ L s. i < bound self.now L s) }
+        requires in_bound { Always (raw rows.now) found.now leads.now (λ L s. i < bound self.now L s) }
         ensures { Always (raw rows.now) found.now leads.now (λ L s. shown_task result ≡ sought self.now L s i) };
 }
 

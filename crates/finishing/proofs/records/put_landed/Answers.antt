@@ -11,7 +11,7 @@ unfolding landed_words upto
 loop-q-init c = splice_none c.args.at c.args.out.now
 
 pub number_in-requires : goal.number_in-requires
-number_in-requires c = record { fits_2 = c.requires.fits; numbered = c.requires.by_index c.loop-q.q (omega arith) }
+number_in-requires c = record { rows_fit = c.requires.fits; numbered = c.requires.by_index c.loop-q.q (omega arith) }
 
 pub put-requires : goal.put-requires
 put-requires c = (omega arith, omega (arith, c.number_in.ensures.fits))

@@ -13,10 +13,10 @@ pub at-slot-requires : goal.at-slot-requires
 at-slot-requires c =
     let h = next_held (raw c.args.rows.now) c.args.self.now c.args.e c.requires in
     let n = next_new (raw c.args.rows.now) c.args.self.now c.args.e c.requires c.kind-kind.result c.kind-kind.ensures in
-    record { fits_2 = h.fits; e_lt_capacity = n.room; j_bound = omega arith }
+    record { rows_fit = h.fits; e_lt_capacity = n.room; j_bound = omega arith }
 
 pub at-at-requires : goal.at-at-requires
-at-at-requires c = let h = next_held (raw c.args.rows.now) c.args.self.now c.args.e c.requires in record { fits_2 = h.fits; e_lt_capacity = h.within; j_bound = omega arith }
+at-at-requires c = let h = next_held (raw c.args.rows.now) c.args.self.now c.args.e c.requires in record { rows_fit = h.fits; e_lt_capacity = h.within; j_bound = omega arith }
 
 pub overflow_add-rows : goal.overflow_add-rows
 overflow_add-rows c = let n = next_new (raw c.args.rows.now) c.args.self.now c.args.e c.requires c.kind-kind.result c.kind-kind.ensures in search rules

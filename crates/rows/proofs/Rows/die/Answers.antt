@@ -4,10 +4,10 @@ use Rattle.rows.proofs.Keeps.{becomes_dead, wait_room}
 use Rattle.rows.proofs.Rows.die.Goals as goal
 
 pub overflow_add-last : goal.overflow_add-last
-overflow_add-last c = let h = wait_room (raw c.args.self.now) c.requires.tidy c.args.v c.args.u c.requires.v_lt_given c.requires.u_lt_v c.requires.v_value in search rules
+overflow_add-last c = let h = wait_room (raw c.args.self.now) c.requires.tidy c.args.v c.args.u c.requires.v_lt_given c.requires.u_lt_v c.requires.v_lives in search rules
 
 pub at-slot-requires : goal.at-slot-requires
-at-slot-requires c = record { fits_2 = c.requires.tidy.fits; e_lt_capacity = wait_room (raw c.args.self.now) c.requires.tidy c.args.v c.args.u c.requires.v_lt_given c.requires.u_lt_v c.requires.v_value; j_bound = omega arith }
+at-slot-requires c = record { rows_fit = c.requires.tidy.fits; e_lt_capacity = wait_room (raw c.args.self.now) c.requires.tidy c.args.v c.args.u c.requires.v_lt_given c.requires.u_lt_v c.requires.v_lives; j_bound = omega arith }
 
 pub returns : goal.returns
-returns c = becomes_dead (raw c.args.self.now) c.requires.tidy c.args.v c.args.u c.requires.v_lt_given c.requires.u_lt_v c.requires.v_value _ _ c.at-at.ensures.is c.at-slot.ensures.is
+returns c = becomes_dead (raw c.args.self.now) c.requires.tidy c.args.v c.args.u c.requires.v_lt_given c.requires.u_lt_v c.requires.v_lives _ _ c.at-at.ensures.is c.at-slot.ensures.is

@@ -7,12 +7,12 @@ use Rattle.rows.proofs.Rows.merge.Goals as goal
 pub die-requires : goal.die-requires
 die-requires c =
     let e = end_is (view c.args.self.now) c.requires.tidy.lower c.args.b c.living_end-y.result c.living_end-y.ensures c.requires.b_lt_given in
-    record { tidy = c.requires.tidy; v_lt_given = e.0; u_lt_v = c.if-x-y.true; v_value = e.1 }
+    record { tidy = c.requires.tidy; v_lt_given = e.0; u_lt_v = c.if-x-y.true; v_lives = e.1 }
 
 pub die-requires-then-y-x : goal.die-requires-then-y-x
 die-requires-then-y-x c =
     let e = end_is (view c.args.self.now) c.requires.tidy.lower c.args.a c.living_end-x.result c.living_end-x.ensures c.requires.a_lt_given in
-    record { tidy = c.requires.tidy; v_lt_given = e.0; u_lt_v = c.if-y-x.true; v_value = e.1 }
+    record { tidy = c.requires.tidy; v_lt_given = e.0; u_lt_v = c.if-y-x.true; v_lives = e.1 }
 
 pub returns-then-x-y : goal.returns-then-x-y
 returns-then-x-y c = becomes_as _ _ (die c.living_end-y.result c.living_end-x.result) (merge c.args.a c.args.b) c.die.ensures

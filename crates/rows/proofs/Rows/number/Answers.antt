@@ -13,7 +13,7 @@ pub number_one-k-requires : goal.number_one-k-requires
 number_one-k-requires c =
     let i = c.loop-e.invariant in
     let n = ap (λ (s : State). s.given) i.0.state in
-    record { still = i.0.still; e_lt_given = omega arith; k_value = i.2 ∙ ap (λ (s : State). rank s.forward c.loop-e.e) (sym i.0.state); ranked_2 = i.1 }
+    record { still = i.0.still; e_lt_given = omega arith; k_ranks = i.2 ∙ ap (λ (s : State). rank s.forward c.loop-e.e) (sym i.0.state); forward_ranked = i.1 }
 
 pub loop-e-preserved : goal.loop-e-preserved
 loop-e-preserved c =

@@ -10,18 +10,18 @@ read-n-requires c =
 
 pub overflow_add-self : goal.overflow_add-self
 overflow_add-self c =
-    let h = new_number (raw c.args.self.now) c.requires.still c.requires.ranked_2 (slot c.args.t) c.requires.has c.in-Some.w c.read-n.result
+    let h = new_number (raw c.args.self.now) c.requires.still c.requires.forward_ranked (slot c.args.t) c.requires.has c.in-Some.w c.read-n.result
     (sym c.held.ensures ∙ c.in-Some.is) c.read-n.ensures in
     search rules
 
 pub returns-in-Some : goal.returns-in-Some
 returns-in-Some c =
-    let n = renames_slot (raw c.args.self.now) c.requires.still c.requires.ranked_2 (slot c.args.t) c.requires.has c.in-Some.w c.read-n.result c.place-at.result
+    let n = renames_slot (raw c.args.self.now) c.requires.still c.requires.forward_ranked (slot c.args.t) c.requires.has c.in-Some.w c.read-n.result c.place-at.result
     (sym c.held.ensures ∙ c.in-Some.is) c.read-n.ensures c.place-at.ensures.is in
     record { goes = n.0; ranked = n.1 }
 
 pub returns-in_default : goal.returns-in_default
 returns-in_default c = record {
-  goes = goes_empty (raw c.args.self.now) c.requires.still c.requires.ranked_2 (slot c.args.t) c.requires.has (sym c.held.ensures ∙ c.in_default.is);
-  ranked = c.requires.ranked_2;
+  goes = goes_empty (raw c.args.self.now) c.requires.still c.requires.forward_ranked (slot c.args.t) c.requires.has (sym c.held.ensures ∙ c.in_default.is);
+  ranked = c.requires.forward_ranked;
 }

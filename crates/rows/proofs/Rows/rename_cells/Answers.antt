@@ -8,13 +8,13 @@ use Rattle.rows.proofs.SweepSteps.{goes_none, goes_then, goes_to}
 use Rattle.rows.proofs.Rows.rename_cells.Goals as goal
 
 pub loop-e-init : goal.loop-e-init
-loop-e-init c = (goes_none (raw c.args.self.now) (renames (in_rows 0 c.args.self.now.links)) c.requires.still (renames_none (view c.args.self.now) _ (none_in_rows c.args.self.now.links)), c.requires.ranked_2)
+loop-e-init c = (goes_none (raw c.args.self.now) (renames (in_rows 0 c.args.self.now.links)) c.requires.still (renames_none (view c.args.self.now) _ (none_in_rows c.args.self.now.links)), c.requires.forward_ranked)
 
 pub rename_row-requires : goal.rename_row-requires
 rename_row-requires c =
     let i = c.loop-e.invariant in
     let n = ap (λ (s : State). s.given) i.0.state in
-    record { still = i.0.still; ranked_2 = i.1; e_lt_given = omega arith }
+    record { still = i.0.still; forward_ranked = i.1; e_lt_given = omega arith }
 
 pub loop-e-preserved : goal.loop-e-preserved
 loop-e-preserved c =

@@ -8,14 +8,14 @@ use Rattle.rows.proofs.SweepSteps.{goes_none, goes_then, goes_to}
 use Rattle.rows.proofs.Rows.rename_kind.Goals as goal
 
 pub loop-q-init : goal.loop-q-init
-loop-q-init c = (goes_none (raw c.args.self.now) (renames (in_kind c.args.k 0)) c.requires.still (renames_none (view c.args.self.now) _ (none_in_kind c.args.k)), c.requires.ranked_2)
+loop-q-init c = (goes_none (raw c.args.self.now) (renames (in_kind c.args.k 0)) c.requires.still (renames_none (view c.args.self.now) _ (none_in_kind c.args.k)), c.requires.forward_ranked)
 
 pub rename-requires : goal.rename-requires
 rename-requires c =
     let i = c.loop-q.invariant in
     let n = ap (λ (h : Shape). h.kinds) i.0.same.shape in
     let l = ap (λ (h : Shape). count h c.args.k) i.0.same.shape in
-    record { still = i.0.still; ranked_2 = i.1; has = (omega arith, omega arith) }
+    record { still = i.0.still; forward_ranked = i.1; has = (omega arith, omega arith) }
 
 pub loop-q-preserved : goal.loop-q-preserved
 loop-q-preserved c =

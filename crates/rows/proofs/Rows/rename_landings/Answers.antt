@@ -14,7 +14,7 @@ pub rename_kind-requires : goal.rename_kind-requires
 rename_kind-requires c =
     let i = c.loop-k.invariant in
     let n = ap (λ (h : Shape). h.kinds) i.0.same.shape in
-    record { still = i.0.still; ranked_2 = i.1; k_lt_kinds = omega arith }
+    record { still = i.0.still; forward_ranked = i.1; k_lt_kinds = omega arith }
 
 pub loop-k-preserved : goal.loop-k-preserved
 loop-k-preserved c =

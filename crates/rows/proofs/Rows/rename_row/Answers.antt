@@ -8,14 +8,14 @@ use Rattle.rows.proofs.SweepSteps.{goes_none, goes_then, goes_to}
 use Rattle.rows.proofs.Rows.rename_row.Goals as goal
 
 pub loop-l-init : goal.loop-l-init
-loop-l-init c = (goes_none (raw c.args.self.now) (renames (in_row c.args.e 0)) c.requires.still (renames_none (view c.args.self.now) _ (none_in_row c.args.e)), c.requires.ranked_2)
+loop-l-init c = (goes_none (raw c.args.self.now) (renames (in_row c.args.e 0)) c.requires.still (renames_none (view c.args.self.now) _ (none_in_row c.args.e)), c.requires.forward_ranked)
 
 pub rename-requires : goal.rename-requires
 rename-requires c =
     let i = c.loop-l.invariant in
     let n = ap (λ (s : State). s.given) i.0.state in
     let l = ap (λ (h : Shape). h.links) i.0.same.shape in
-    record { still = i.0.still; ranked_2 = i.1; has = (omega arith, omega arith) }
+    record { still = i.0.still; forward_ranked = i.1; has = (omega arith, omega arith) }
 
 pub loop-l-preserved : goal.loop-l-preserved
 loop-l-preserved c =

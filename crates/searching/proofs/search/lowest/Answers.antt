@@ -6,7 +6,7 @@ pub loop-i-init : goal.loop-i-init
 loop-i-init g c L h = lowest_none _
 
 pub at-requires : goal.at-requires
-at-requires g c = record { fits = c.requires.fits; holding = c.requires.holding; always = c.requires.always; always_2 = λ L h. subst (λ (n : ℕ). c.loop-i.i < n) (c.size-n.ensures L h) c.loop-i-test.true }
+at-requires g c = record { fits = c.requires.fits; holding = c.requires.holding; always = c.requires.always; in_bound = λ L h. subst (λ (n : ℕ). c.loop-i.i < n) (c.size-n.ensures L h) c.loop-i-test.true }
 
 pub loop-i-preserved : goal.loop-i-preserved
 loop-i-preserved g c L h = lowest_more _ c.loop-i.i (c.loop-i.invariant L h) (c.in_default.ensures L h)

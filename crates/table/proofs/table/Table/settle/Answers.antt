@@ -16,7 +16,7 @@ pub settle-requires : goal.settle-requires
 settle-requires c =
     let t = c.args.self.now in
     let some : 0 < t.rows.waits = omega (arith, c.if-self-eq0.false) in
-    record { tidy = tidy t; waits_nonzero = some; self_bound = first_known t c.if-not-self.false some }
+    record { tidy = tidy t; waits_nonzero = some; first_known = first_known t c.if-not-self.false some }
 
 pub invariant_of-self : goal.invariant_of-self
 invariant_of-self c =
