@@ -1,6 +1,6 @@
 -- What finish writes is read back.
 use Rattle.std.proofs.Common.{◌≡◌, ℕ, ◌<◌, ◌≤◌, cond, ltb, List, length, get_or, Some, None, Option, sym, refl, ap, ◌∙◌, subst, ⊎_elim, arith}
-use Rattle.std.specs.List.{AllByRecursion as All}
+use Rattle.std.specs.List.{AllByRecursion}
 use Rattle.std.proofs.lemmas.List.{get_or_past}
 use Rattle.std.proofs.lemmas.Bool.{cases_lt, ltb-true}
 use Rattle.register_files.specs.Register.{Row}
@@ -33,7 +33,7 @@ module _ (L : Loaded) (acc : Accepted L) (lim : Limits L) (R : Receiver L) (P : 
   known : (k : ℕ) → k < L.target_kinds → k < length cs
   known k h = let n = upto_length R.count L.target_kinds in omega arith
 
-  counted_all : (lead : ℕ → ℕ) (n to : ℕ) → to < L.target_kinds → ((r : ℕ) → r < n → lead r < R.count to) → All (λ r. r < get_or cs to 0) (upto lead n)
+  counted_all : (lead : ℕ → ℕ) (n to : ℕ) → to < L.target_kinds → ((r : ℕ) → r < n → lead r < R.count to) → AllByRecursion (λ r. r < get_or cs to 0) (upto lead n)
   counted_all lead n to k h = upto_all lead (λ r. r < get_or cs to 0) n (λ r q. rw (upto_at R.count L.target_kinds to 0 k) (h r q))
 
   well_formed : WellFormed (register_file L R.count R.lead P.at)

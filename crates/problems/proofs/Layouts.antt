@@ -2,7 +2,7 @@
 use Rattle.std.proofs.Common.{◌≡◌, ℕ, ◌+◌, ◌-◌, ◌*◌, ◌/◌, ◌%◌, ◌<◌, ◌≤◌, Bool, false, ltb, List, [], ◌∷◌, ◌++◌, map, length, Ok, sym, refl, ap, ◌∙◌, zero-add, arith, length-append}
 use Rattle.std.proofs.lemmas.List.{length-map}
 use Rattle.std.proofs.lemmas.Bool.Decides.{nat_tests}
-use Rattle.std.specs.List.{flat_map, AllByRecursion as All}
+use Rattle.std.specs.List.{flat_map, AllByRecursion}
 use Rattle.words.specs.declared.tags.Tag.{Tag}
 use Rattle.words.specs.Words.{worded, then, starts}
 use Rattle.words.specs.Tags.{tagged, number}
@@ -110,12 +110,12 @@ read_layout ws p e =
     )
 
 -- what comes first behind the links, and behind the rules
-kinds_other : (u : Tag) (ws : List ℕ) (at b n kinds : ℕ) (km xs : List ℕ) → (number tag.KindMap ≡ number u → ⊥) → kinds ≤ 32 → n ≤ 32 → 0 < length km → All (λ k. k < kinds) km
+kinds_other : (u : Tag) (ws : List ℕ) (at b n kinds : ℕ) (km xs : List ℕ) → (number tag.KindMap ≡ number u → ⊥) → kinds ≤ 32 → n ≤ 32 → 0 < length km → AllByRecursion (λ k. k < kinds) km
     → Stands ws at (numbered kind_words n km ++ xs) b → starts u ws at ≡ false
 kinds_other u ws at b n kinds [] xs ne few small h a s = absurd (omega arith)
 kinds_other u ws at b n kinds (k ∷ km) xs ne few small h a s = let w : n * 256 + k < 268435456 = omega (arith, a.0) in stands_other u tag.KindMap ws at b (n * 256 + k) _ w ne s
 
-rules_no_link : (ws : List ℕ) (at b kinds : ℕ) (ts : List Link) (rs : List Rule) (km xs : List ℕ) → kinds ≤ 32 → All (GoodRule kinds ts) rs → 0 < length km → All (λ k. k < kinds) km
+rules_no_link : (ws : List ℕ) (at b kinds : ℕ) (ts : List Link) (rs : List Rule) (km xs : List ℕ) → kinds ≤ 32 → AllByRecursion (GoodRule kinds ts) rs → 0 < length km → AllByRecursion (λ k. k < kinds) km
     → Stands ws at (flat_map rule_words rs ++ (numbered kind_words 0 km ++ xs)) b → starts tag.Link ws at ≡ false
 rules_no_link ws at b kinds ts [] km xs few g h a s = kinds_other tag.Link ws at b 0 kinds km xs (λ q. omega arith) few (omega arith) h a s
 rules_no_link ws at b kinds ts (r ∷ rs) km xs few g h a s =
@@ -124,7 +124,7 @@ rules_no_link ws at b kinds ts (r ∷ rs) km xs few g h a s =
     stands_other tag.Link tag.Rule ws at b v _ w (λ q. omega arith) s
 
 -- how long a well-formed problem can be
-rules_short : (kinds : ℕ) (ts : List Link) (rs : List Rule) → All (GoodRule kinds ts) rs → sizes rule_size rs ≤ length rs * 129
+rules_short : (kinds : ℕ) (ts : List Link) (rs : List Rule) → AllByRecursion (GoodRule kinds ts) rs → sizes rule_size rs ≤ length rs * 129
 rules_short kinds ts [] a = omega arith
 rules_short kinds ts (r ∷ rs) a = let h = rules_short kinds ts rs a.1 in omega (arith, a.0.left_short, a.0.right_short)
 

@@ -1,6 +1,6 @@
 -- Which problems there are, and how they are laid out in words.
 use Rattle.std.specs.Prelude.{◌≡◌, ℕ, ◌+◌, ◌*◌, ◌<◌, ◌≤◌, List, [], ◌∷◌, ◌++◌, map, length, Ok, slice_index_or}
-use Rattle.std.specs.List.{flat_map, AllByRecursion as All}
+use Rattle.std.specs.List.{flat_map, AllByRecursion}
 use Rattle.words.specs.Tags.{tagged}
 use Rattle.words.specs.Numbered.{numbered, Each}
 use Rattle.problems.specs.Problem.{Link, Rule, Problem, no_link, begins, stops, read}
@@ -39,7 +39,7 @@ pub record GoodSchema (k : ℕ) (ls : List Link) : Type 0 where
   pub some : 0 < k
   pub few : k ≤ 32
   pub few_links : length ls ≤ 64
-  pub known : All (GoodLink k) ls
+  pub known : AllByRecursion (GoodLink k) ls
 
 -- a path walks from a kind to a kind: each link leaves the kind reached
 abbrev pub Walks : List Link → ℕ → List ℕ → ℕ → Type 0
@@ -64,9 +64,9 @@ pub record WellFormed (p : Problem) : Type 0 where
   pub source : GoodSchema p.source_kinds p.source_links
   pub target : GoodSchema p.target_kinds p.target_links
   pub few_rules : length p.rules ≤ 128
-  pub rules : All (GoodRule p.target_kinds p.target_links) p.rules
+  pub rules : AllByRecursion (GoodRule p.target_kinds p.target_links) p.rules
   pub kinds_full : length p.kind_map ≡ p.source_kinds
-  pub kinds : All (λ k. k < p.target_kinds) p.kind_map
+  pub kinds : AllByRecursion (λ k. k < p.target_kinds) p.kind_map
   pub maps_full : length p.link_map ≡ length p.source_links
   pub maps : Each (GoodMap p.source_links p.kind_map p.target_links) 0 p.link_map
 

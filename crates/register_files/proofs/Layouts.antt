@@ -3,7 +3,7 @@ use Rattle.std.proofs.Common.{◌≡◌, ℕ, ◌+◌, ◌*◌, ◌<◌, ◌≤�
 use Rattle.std.proofs.ByRecursion.{All-get_or}
 use Rattle.std.proofs.lemmas.List.{length-map}
 use Rattle.std.proofs.lemmas.Bool.Decides.{nat_tests}
-use Rattle.std.specs.List.{flat_map, AllByRecursion as All}
+use Rattle.std.specs.List.{flat_map, AllByRecursion}
 use Rattle.words.specs.declared.faults.SchemaFault.{SchemaFault}
 use Rattle.words.specs.Words.{worded, starts, end}
 use Rattle.words.specs.Items.{items, one_word, run, sizes}
@@ -36,10 +36,10 @@ module _ (ws : List ℕ) (t : Tag) (f : ℕ → Result ℕ SchemaFault) (P : ℕ
       let q : sizes one_word vs ≡ n = sizes_one vs ∙ run_length f n p vs e in
       rw (map_numbered t 0 vs, ← q) (items_stand one_word (λ left p. ltb 0 left) (λ left p. f p) ws n (run_words t) (λ _. P) (λ k room p v h. each p v) n 0 p vs (zero-add n) e)
 
-  run_all : ((p v : ℕ) → f p ≡ Ok v → P v) → (n p : ℕ) (vs : List ℕ) → run f n p ≡ Ok vs → All P vs
+  run_all : ((p v : ℕ) → f p ≡ Ok v → P v) → (n p : ℕ) (vs : List ℕ) → run f n p ≡ Ok vs → AllByRecursion P vs
   run_all each n p vs e = each_all P 0 vs (items_each one_word (λ left p. ltb 0 left) (λ left p. f p) ws n (run_words t) (λ _. P) (λ k room p v h. each p v) n 0 p vs (zero-add n) e)
 
-  run_read : ((p v : ℕ) → P v → Stands ws p (tagged t v ∷ []) (p + 1) → f p ≡ Ok v) → (vs : List ℕ) (p b : ℕ) → All P vs → Stands ws p (map (tagged t) vs) b → run f (length vs) p ≡ Ok vs
+  run_read : ((p v : ℕ) → P v → Stands ws p (tagged t v ∷ []) (p + 1) → f p ≡ Ok v) → (vs : List ℕ) (p b : ℕ) → AllByRecursion P vs → Stands ws p (map (tagged t) vs) b → run f (length vs) p ≡ Ok vs
   unfolding run_words
   run_read each vs p b a s =
       items_read one_word (λ left p. ltb 0 left) (λ left p. f p) ws (length vs) (run_words t) (λ _. P) (λ k v. refl)
@@ -54,13 +54,13 @@ module _ (ws : List ℕ) (m : ℕ) where
   leads_stand : (n p : ℕ) (rs : List ℕ) → run (counted m ws) n p ≡ Ok rs → Stands ws p (map (tagged tag.Record) rs) (p + n)
   leads_stand = run_stands ws tag.Record (counted m ws) (λ r. r < m) (λ p v e. stood_stands tag.Record ws p v (counted_told m ws p v e).0)
 
-  leads_good : (n p : ℕ) (rs : List ℕ) → run (counted m ws) n p ≡ Ok rs → All (λ r. r < m) rs
+  leads_good : (n p : ℕ) (rs : List ℕ) → run (counted m ws) n p ≡ Ok rs → AllByRecursion (λ r. r < m) rs
   leads_good = run_all ws tag.Record (counted m ws) (λ r. r < m) (λ p v e. (counted_told m ws p v e).1)
 
   lead_read : m ≤ 65536 → (p v : ℕ) → v < m → Stands ws p (tagged tag.Record v ∷ []) (p + 1) → counted m ws p ≡ Ok v
   lead_read h p v k s = let q = word_read tag.Record ws p v (stands_stood tag.Record ws p (p + 1) v [] (omega arith) s) in grind (arith, nat_tests)
 
-  leads_read : m ≤ 65536 → (rs : List ℕ) (p b : ℕ) → All (λ r. r < m) rs → Stands ws p (map (tagged tag.Record) rs) b → run (counted m ws) (length rs) p ≡ Ok rs
+  leads_read : m ≤ 65536 → (rs : List ℕ) (p b : ℕ) → AllByRecursion (λ r. r < m) rs → Stands ws p (map (tagged tag.Record) rs) b → run (counted m ws) (length rs) p ≡ Ok rs
   leads_read h = run_read ws tag.Record (counted m ws) (λ r. r < m) (lead_read h)
 
 -- rows that begin with a tag
@@ -118,7 +118,7 @@ module _ (cs ws : List ℕ) where
         counted = leads_good ws (get_or cs l.to 0) (length l.leads) (at + 1) l.leads r.each;
       }
 
-  module _ (few : length cs ≤ 32) (small : All (λ c. c < 65536) cs) where
+  module _ (few : length cs ≤ 32) (small : AllByRecursion (λ c. c < 65536) cs) where
     count_small : (k : ℕ) → k < length cs → get_or cs k 0 ≤ 65536
     count_small k h = let s = All-get_or (λ c. c < 65536) cs k 0 h small in omega arith
 
@@ -153,7 +153,7 @@ module _ (cs ws : List ℕ) where
         )
 
 -- how long a well-formed file can be
-links_short : (cs : List ℕ) (ls : List Row) → All (λ c. c < 65536) cs → All (GoodLink cs) ls → sizes span ls ≤ length ls * 65536
+links_short : (cs : List ℕ) (ls : List Row) → AllByRecursion (λ c. c < 65536) cs → AllByRecursion (GoodLink cs) ls → sizes span ls ≤ length ls * 65536
 links_short cs [] s a = omega arith
 links_short cs (l ∷ ls) s a =
     let h = links_short cs ls s a.1 in

@@ -1,6 +1,6 @@
 -- Which register files there are, and how they are laid out in words.
 use Rattle.std.specs.Prelude.{◌≡◌, ℕ, ◌+◌, ◌*◌, ◌<◌, ◌≤◌, List, [], ◌∷◌, ◌++◌, map, length, Ok, slice_index}
-use Rattle.std.specs.List.{flat_map, AllByRecursion as All}
+use Rattle.std.specs.List.{flat_map, AllByRecursion}
 use Rattle.words.specs.Tags.{tagged}
 use Rattle.words.specs.Numbered.{Each}
 use Rattle.register_files.specs.Register.{Row, File, read}
@@ -27,21 +27,21 @@ pub record GoodLink (cs : List ℕ) (l : Row) : Type 0 where
   pub from_known : l.from < length cs
   pub to_known : l.to < length cs
   pub full : length l.leads ≡ slice_index cs l.from
-  pub counted : All (λ r. r < slice_index cs l.to) l.leads
+  pub counted : AllByRecursion (λ r. r < slice_index cs l.to) l.leads
 
 -- the landings of the source kind n
 pub record GoodLanding (cs : List ℕ) (n : ℕ) (l : Row) : Type 0 where
   pub numbered : l.from ≡ n
   pub to_known : l.to < length cs
   pub short : length l.leads < 4096
-  pub counted : All (λ r. r < slice_index cs l.to) l.leads
+  pub counted : AllByRecursion (λ r. r < slice_index cs l.to) l.leads
 
 -- within every limit
 pub record WellFormed (f : File) : Type 0 where
   pub few_kinds : length f.counts ≤ 32
-  pub small : All (λ c. c < 65536) f.counts
+  pub small : AllByRecursion (λ c. c < 65536) f.counts
   pub few_links : length f.links ≤ 64
-  pub links : All (GoodLink f.counts) f.links
+  pub links : AllByRecursion (GoodLink f.counts) f.links
   pub few_landings : length f.landings ≤ 32
   pub landings : Each (GoodLanding f.counts) 0 f.landings
 

@@ -1,6 +1,6 @@
 -- Tests of the numbers below a limit, and lists made by count.
 use Rattle.std.proofs.Common.{◌≡◌, ℕ, zero, suc, ◌+◌, ◌<◌, ◌≤◌, Bool, true, false, cond, List, [], ◌∷◌, length, get_or, Some, None, Option, sym, refl, ap, ◌∙◌, ⊎_elim, add-one, arith, length-append}
-use Rattle.std.specs.List.{AllByRecursion as All}
+use Rattle.std.specs.List.{AllByRecursion}
 use Rattle.std.proofs.lemmas.List.{get_or_append_left, get_or_push, ext_get_or}
 use Rattle.std.proofs.ByRecursion.{All-push}
 use Rattle.std.proofs.lemmas.Bool.{or_from, or_left, or_right, or_parts, cases_lt}
@@ -82,7 +82,7 @@ module _ {X : Type 0} (f : ℕ → X) where
       (λ (l : n ≤ i). let s : n ≡ i = omega arith in get_or_push (upto f n) (f n) d i (q ∙ s) ∙ ap f s)
       (cases_lt i n)
 
-  pub upto_all : (P : X → Type 0) (n : ℕ) → ((i : ℕ) → i < n → P (f i)) → All P (upto f n)
+  pub upto_all : (P : X → Type 0) (n : ℕ) → ((i : ℕ) → i < n → P (f i)) → AllByRecursion P (upto f n)
   unfolding upto
   upto_all P zero h = tt
   upto_all P (suc n) h = All-push P (upto f n) (f n) (upto_all P n (λ i l. h i (omega arith))) (h n (omega arith))

@@ -1,6 +1,6 @@
 -- What a check finds in a tidy table names entries that were given and a slot that has a word.
 use Rattle.std.proofs.Common.{ℕ, zero, suc, ◌<◌, Bool, true, false, cond, eqb, List, [], ◌∷◌, length}
-use Rattle.std.specs.List.{AllByRecursion as All}
+use Rattle.std.specs.List.{AllByRecursion}
 use Rattle.machine.specs.State.{Slot, cell}
 use Rattle.machine.specs.Walking.{Walked, ended, stopped, walk, walk_in}
 use Rattle.machine.specs.Checking.{closed, merges, sides}
@@ -10,7 +10,7 @@ use Rattle.rows.specs.Walks.{Named}
 
 -- the links of a path are below a number
 abbrev pub Below : ℕ → List ℕ → Type 0
-Below n = All (λ l. l < n)
+Below n = AllByRecursion (λ l. l < n)
 
 -- a walk ends at a given entry, or stops before a slot that has a word
 abbrev pub Comes : Raw → Walked → Type 0

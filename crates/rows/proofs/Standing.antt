@@ -1,6 +1,6 @@
 -- The paths of the problem in a table's own words are those that the machine walks, and their links are known.
 use Rattle.std.proofs.Common.{◌≡◌, ℕ, zero, suc, ◌+◌, ◌<◌, cond, ltb, List, [], ◌∷◌, map, length, get_or, take, Some, None, Ok, Option, Result, sym, refl, ap, ◌∙◌, subst, inl, inr, arith}
-use Rattle.std.specs.List.{AllByRecursion as All}
+use Rattle.std.specs.List.{AllByRecursion}
 use Rattle.std.proofs.lemmas.Nat.{mod-mul-add}
 use Rattle.std.proofs.ByRecursion.{All-weaker}
 use Rattle.std.proofs.lemmas.List.{get_or_past}
@@ -40,12 +40,12 @@ walks_below ts kind [] end w = tt
 walks_below ts kind (g ∷ gs) end w = (w.0, walks_below ts (get_or ts g no_link).to gs end w.2)
 
 -- what holds of each element and of the default holds of any
-everywhere : {X : Type 0} (P : X → Type 0) (d : X) (xs : List X) → P d → All P xs → (i : ℕ) → P (get_or xs i d)
+everywhere : {X : Type 0} (P : X → Type 0) (d : X) (xs : List X) → P d → AllByRecursion P xs → (i : ℕ) → P (get_or xs i d)
 everywhere P d [] h a i = h
 everywhere P d (x ∷ xs) h a zero = a.0
 everywhere P d (x ∷ xs) h a (suc i) = everywhere P d xs h a.1 i
 
-maps_below : (ss : List Link) (km : List ℕ) (ts : List Link) (n : ℕ) (qs : List (List ℕ)) → Each (GoodMap ss km ts) n qs → All (Below (length ts)) qs
+maps_below : (ss : List Link) (km : List ℕ) (ts : List Link) (n : ℕ) (qs : List (List ℕ)) → Each (GoodMap ss km ts) n qs → AllByRecursion (Below (length ts)) qs
 maps_below ss km ts n [] a = tt
 maps_below ss km ts n (q ∷ qs) a = (walks_below ts _ q _ a.0.walks, maps_below ss km ts (n + 1) qs a.1)
 

@@ -1,7 +1,7 @@
 -- Items stand in the words as they are laid out, and are read where they stand.
 use Rattle.std.proofs.Common.{◌≡◌, ℕ, zero, suc, ◌+◌, ◌-◌, ◌<◌, ◌≤◌, Bool, true, false, cond, ltb, List, [], ◌∷◌, ◌++◌, length, Ok, Result, sym, refl, ap, ◌∙◌, add-zero, arith, length-append}
 use Rattle.std.proofs.lemmas.Bool.Decides.{nat_tests}
-use Rattle.std.specs.List.{flat_map, AllByRecursion as All}
+use Rattle.std.specs.List.{flat_map, AllByRecursion}
 use Rattle.words.specs.declared.faults.SchemaFault.{SchemaFault}
 use Rattle.words.specs.Words.{then, end}
 use Rattle.words.specs.Items.{items, sizes}
@@ -23,11 +23,11 @@ module _ {X : Type 0} where
   joined_numbered lay n [] = refl
   joined_numbered lay n (x ∷ xs) = ap (λ ws. lay x ++ ws) (joined_numbered lay (n + 1) xs)
 
-  pub each_all : (P : X → Type 0) (n : ℕ) (xs : List X) → Each (λ _. P) n xs → All P xs
+  pub each_all : (P : X → Type 0) (n : ℕ) (xs : List X) → Each (λ _. P) n xs → AllByRecursion P xs
   each_all P n [] a = tt
   each_all P n (x ∷ xs) a = (a.0, each_all P (n + 1) xs a.1)
 
-  pub all_each : (P : X → Type 0) (n : ℕ) (xs : List X) → All P xs → Each (λ _. P) n xs
+  pub all_each : (P : X → Type 0) (n : ℕ) (xs : List X) → AllByRecursion P xs → Each (λ _. P) n xs
   all_each P n [] a = tt
   all_each P n (x ∷ xs) a = (a.0, all_each P (n + 1) xs a.1)
 
