@@ -22,7 +22,7 @@ use Rattle.loading.proofs.LoadLists.{sum_same, upto_kept}
 use Rattle.loading.proofs.LoadCopies.{leads_length, leads_at}
 
 module _ (old ws : List ℕ) (m : Meaning) (l : Loading) (p : Planned (length old) ws m l) (mid low new : List ℕ)
-    (copied-in : mid ≡ spliced 0 ws old) (emptied : low ≡ spliced l.lands (upto (λ i. 0) l.records) mid)
+    (copied_in : mid ≡ spliced 0 ws old) (emptied : low ≡ spliced l.lands (upto (λ i. 0) l.records) mid)
     (led : new ≡ spliced (l.lands + l.records) (lead_words (problem_in ws) m l.found.source.links) low) where
   abbrev zeros : List ℕ
   zeros = upto (λ i. 0) l.records
@@ -46,7 +46,7 @@ module _ (old ws : List ℕ) (m : Meaning) (l : Loading) (p : Planned (length ol
   whole =
       let n = p.lands in
       let k = front_length in
-      let front = splice_then 0 l.lands ws zeros old mid low (omega arith) (omega arith) copied-in emptied in
+      let front = splice_then 0 l.lands ws zeros old mid low (omega arith) (omega arith) copied_in emptied in
       splice_then 0 (l.lands + l.records) (ws ++ zeros) leads old low new (omega arith) (omega arith) front led
       ∙ splice_front ((ws ++ zeros) ++ leads) old ∙ ap (λ n. ((ws ++ zeros) ++ leads) ++ drop n old) body_length
 

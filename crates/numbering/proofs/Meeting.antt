@@ -50,9 +50,9 @@ module _ (a b : Raw) (xs : List ℕ) (n : ℕ) (counts : List ℕ) (e : ℕ) (m 
   room : n < b.shape.capacity
   room = omega (arith, short (shown a) more met_more, length_push xs e, m.tallied.size, (fits a xs b k).few, same_given a xs b k)
 
-  module _ (kind : ℕ) (is-kind : kind ≡ (shown b).kind e) where
+  module _ (kind : ℕ) (is_kind : kind ≡ (shown b).kind e) where
     same_kind : kind ≡ (shown a).kind e
-    same_kind = is-kind ∙ ap (λ (f : ℕ → ℕ). f e) (same_kinds a xs b k)
+    same_kind = is_kind ∙ ap (λ (f : ℕ → ℕ). f e) (same_kinds a xs b k)
 
     kind_small : kind < 32
     kind_small = rw same_kind (k.from.kinds e f.below)

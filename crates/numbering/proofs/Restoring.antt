@@ -28,15 +28,15 @@ module _ (a b : Raw) (xs : List ℕ) (k : Kept a b xs) (i : ℕ) (h : i < length
   pub entry_room : (e : ℕ) → e ≡ row b i 2 → e < b.shape.capacity
   entry_room e q = let l = (k.met.all i (row b i 2) (nth_row a xs b k i h)).0 in omega (arith, q, l, same_given a xs b k, (fits a xs b k).few)
 
-module _ (a b : Raw) (xs : List ℕ) (i : ℕ) (h : i < length xs) (r : Restored a b xs i) (e : ℕ) (is-e : e ≡ row b i 2) where
+module _ (a b : Raw) (xs : List ℕ) (i : ℕ) (h : i < length xs) (r : Restored a b xs i) (e : ℕ) (is_e : e ≡ row b i 2) where
   here : nth xs i ≡ Some e
-  here = nth_row a xs b r.kept i h ∙ ap Some (sym is-e)
+  here = nth_row a xs b r.kept i h ∙ ap Some (sym is_e)
 
   abbrev at : ℕ
   at = place b.shape.base b.shape.links e 1
 
   at_fits : at < length b.ws
-  at_fits = place_fits b.shape.base b.shape.links b.shape.capacity (length b.ws) e 1 (fits a xs b r.kept).room (entry_room a b xs r.kept i h e is-e) (omega arith)
+  at_fits = place_fits b.shape.base b.shape.links b.shape.capacity (length b.ws) e 1 (fits a xs b r.kept).room (entry_room a b xs r.kept i h e is_e) (omega arith)
 
   column : (x j : ℕ) → j < b.shape.links + 3 → (j ≡ 1 → ⊥) → row (over b (set b.ws at e)) x j ≡ row b x j
   column x j hj n = word_column b.ws b.shape.base b.shape.links e 1 e x j (omega arith) hj n

@@ -1,5 +1,5 @@
 -- The problem file: what it holds, and how it is read.
-use Rattle.std.specs.Prelude.{ℕ, zero, suc, ◌+◌, ◌/◌, ◌%◌, cond, ◌&&◌, ◌||◌, ltb, List, [], ◌∷◌, length, Ok, Err, Result, ◌==◌, nat_le, nat_lt, slice_index, slice_index_or}
+use Rattle.std.specs.Prelude.{ℕ, zero, suc, ◌+◌, ◌/◌, ◌%◌, cond, ◌&&◌, ◌||◌, nat_lt, List, [], ◌∷◌, length, Ok, Err, Result, ◌==◌, nat_le, slice_index, slice_index_or}
 use Rattle.words.specs.declared.faults.WordFault.TheVariants.{Wrong, Limit}
 use Rattle.words.specs.declared.faults.SchemaFault.{SchemaFault}
 use Rattle.words.specs.declared.faults.SchemaFault.TheVariants.{Words, Unknown, Unjoined}
@@ -92,7 +92,7 @@ abbrev pub kind_mapped : ℕ → ℕ → List ℕ → ℕ → ℕ → Result ℕ
 kind_mapped n kinds ws left at = then (worded (word tag.KindMap ws at)) (kind_of n kinds left at)
 
 abbrev pub kind_maps : ℕ → ℕ → List ℕ → ℕ → Result (List ℕ) SchemaFault
-kind_maps n kinds ws at = items one_word (λ left p. ltb 0 left) (kind_mapped n kinds ws) n at
+kind_maps n kinds ws at = items one_word (λ left p. nat_lt 0 left) (kind_mapped n kinds ws) n at
 
 -- the target kinds of the ends of a source link
 abbrev pub begins : List Link → List ℕ → ℕ → ℕ
@@ -120,7 +120,7 @@ abbrev pub path_size : List ℕ → ℕ
 path_size p = 1 + length p
 
 abbrev pub link_maps : List Link → List ℕ → List Link → List ℕ → ℕ → Result (List (List ℕ)) SchemaFault
-link_maps ss km ts ws at = items path_size (λ left p. ltb 0 left) (link_mapped ss km ts ws) (length ss) at
+link_maps ss km ts ws at = items path_size (λ left p. nat_lt 0 left) (link_mapped ss km ts ws) (length ss) at
 
 -- a schema and its links
 abbrev pub whole_schema : ℕ → List ℕ → ℕ → Result (ℕ × List Link) SchemaFault

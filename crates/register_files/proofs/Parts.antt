@@ -101,11 +101,11 @@ kinds_code ws n m e h p =
     let z : ltb 32 n ≡ false = grind (arith, nat_tests) in
     sym (ap (λ r. sized (then (worded r) (λ n. cond (ltb 32 n) (Err (Words (Limit 0))) (run (count ws) n 1)))) e
     ∙ ap (λ b. sized (cond b (Err (Words (Limit 0))) (run (count ws) n 1))) z
-    ∙ counted-so (run (count ws) n 1) refl p)
+    ∙ counted_so (run (count ws) n 1) refl p)
   where
-    counted-so : (r : Result (List ℕ) SchemaFault) → run (count ws) n 1 ≡ r → ended one_word 1 r ≡ Ok m → sized r ≡ Ok n
-    counted-so (Ok xs) q p = ap Ok (run_length (count ws) n 1 xs q)
-    counted-so (Err e) q p = absurd (err_ok p)
+    counted_so : (r : Result (List ℕ) SchemaFault) → run (count ws) n 1 ≡ r → ended one_word 1 r ≡ Ok m → sized r ≡ Ok n
+    counted_so (Ok xs) q p = ap Ok (run_length (count ws) n 1 xs q)
+    counted_so (Err e) q p = absurd (err_ok p)
 
 -- without room there is none
 pub link_room : (cs ws : List ℕ) (room at : ℕ) (l : Row) → link cs ws room at ≡ Ok l → 0 < room

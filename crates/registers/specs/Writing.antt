@@ -1,5 +1,5 @@
 -- Writing a register: the words, the refusals, and what is read back.
-use Rattle.std.specs.Prelude.{◌≡◌, ℕ, zero, suc, ◌≤◌, Bool, true, false, cond, not, ◌&&◌, ◌||◌, ltb, List, [], ◌∷◌, ◌++◌, length, take, drop, Some, None, Ok, Err, Option, Result, nat_le, nat_lt}
+use Rattle.std.specs.Prelude.{◌≡◌, ℕ, zero, suc, ◌≤◌, Bool, true, false, cond, not, ◌&&◌, ◌||◌, nat_lt, List, [], ◌∷◌, ◌++◌, length, take, drop, Some, None, Ok, Err, Option, Result, nat_le}
 use Rattle.std.specs.Option.{unwrap_or}
 use Rattle.register_files.specs.Register.{Row, File, read}
 use Rattle.register_files.specs.Layout.{layout}
@@ -28,7 +28,7 @@ lowest p (suc n) = or_here (lowest p n) (cond (p n) (Some n) None)
 
 -- a kind of more than 65,535 records
 abbrev pub crowded : Meaning → Bool
-crowded m = some_below (λ k. ltb 65535 (m.count k)) m.kinds
+crowded m = some_below (λ k. nat_lt 65535 (m.count k)) m.kinds
 
 -- more than 32 kinds, 64 links or 65,535 records of a kind
 abbrev pub large : Meaning → Bool

@@ -61,17 +61,17 @@ pub becomes_as : (a b : Raw) (f g : State → State) → Becomes a f b → f (sh
 becomes_as a b f g p e = record { tidy = p.tidy; state = p.state ∙ e; same = p.same }
 
 -- a slot is written
-module _ (r : Raw) (ok : Tidy r) (t : Slot) (in-t : Within r.shape r.given t) where
+module _ (r : Raw) (ok : Tidy r) (t : Slot) (in_t : Within r.shape r.given t) where
   becomes_held : (w : ℕ) (o : Option ℕ) → decode w ≡ o → ((v : ℕ) → o ≡ Some v → v < r.given) → Becomes r (hold t o) (with r (set r.ws (spot r.shape t) w) r.given r.waits)
   becomes_held w o d h =
       let l = length-set r.ws (spot r.shape t) w in
-      let q = shown_hold r ok.fits t w in-t ∙ ap (λ (z : Option ℕ). hold t z (shown r)) d in
+      let q = shown_hold r ok.fits t w in_t ∙ ap (λ (z : Option ℕ). hold t z (shown r)) d in
       record {
         tidy = tidy_by _ (hold t o (shown r)) (fits_with r (set r.ws (spot r.shape t) w) r.given r.waits ok.fits l ok.fits.few) q ok.lower
             (λ u v e. elim (put_held t o (shown r).held u v e) [ inl p ↦ h v p.1 | inr p ↦ ok.given u v p.1 ])
             ok.queued;
         state = q;
-        same = record { shape = refl; size = l; copies = λ i c. get_or-set_other r.ws (spot r.shape t) i w 0 (spot_copied r ok.fits t in-t i c) };
+        same = record { shape = refl; size = l; copies = λ i c. get_or-set_other r.ws (spot r.shape t) i w 0 (spot_copied r ok.fits t in_t i c) };
       }
 
   pub becomes_filled : (at v : ℕ) → at ≡ spot r.shape t → v < r.given → Becomes r (hold t (Some v)) (with r (set r.ws at (v + 1)) r.given r.waits)

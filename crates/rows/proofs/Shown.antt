@@ -62,20 +62,20 @@ held_kept r ws waits t e = elim (cases_Bool (inside r.shape r.given t)) [
 ]
 
 -- a slot is written
-module _ (r : Raw) (fits : Fits r) (t : Slot) (v : ℕ) (in-t : Within r.shape r.given t) where
+module _ (r : Raw) (fits : Fits r) (t : Slot) (v : ℕ) (in_t : Within r.shape r.given t) where
   column : (x y : ℕ) → y < 3 → word (set r.ws (spot r.shape t) v) r.shape.base r.shape.links x y ≡ word r.ws r.shape.base r.shape.links x y
   unfolding word
-  column x y h = get_or-set_other r.ws (spot r.shape t) (place r.shape.base r.shape.links x y) v 0 (λ q. spot_apart r fits t in-t x y h (sym q))
+  column x y h = get_or-set_other r.ws (spot r.shape t) (place r.shape.base r.shape.links x y) v 0 (λ q. spot_apart r fits t in_t x y h (sym q))
 
   abbrev slotted : Raw
   slotted = with r (set r.ws (spot r.shape t) v) r.given r.waits
 
   held_write : (u : Slot) → (shown slotted).held u ≡ put t (decode v) (shown r).held u
   held_write u = elim (put_cases t u (decode v) (shown r).held) [
-    | inl q ↦ ap (shown slotted).held q.0 ∙ held_in slotted t (within_true r.shape r.given t in-t)
-        ∙ ap decode (get_or-set_same r.ws (spot r.shape t) v 0 (spot_fits r fits t in-t)) ∙ sym q.1
+    | inl q ↦ ap (shown slotted).held q.0 ∙ held_in slotted t (within_true r.shape r.given t in_t)
+        ∙ ap decode (get_or-set_same r.ws (spot r.shape t) v 0 (spot_fits r fits t in_t)) ∙ sym q.1
     | inr q ↦ held_kept r (set r.ws (spot r.shape t) v) r.waits u
-        (λ w. get_or-set_other r.ws (spot r.shape t) (spot r.shape u) v 0 (λ p. q.0 (spot_own r fits t u in-t w p))) ∙ sym q.1
+        (λ w. get_or-set_other r.ws (spot r.shape t) (spot r.shape u) v 0 (λ p. q.0 (spot_own r fits t u in_t w p))) ∙ sym q.1
   ]
 
   pub shown_hold : shown slotted ≡ hold t (decode v) (shown r)

@@ -93,7 +93,7 @@ renames_one s t h here others = same_state _ _ refl (λ _. refl) (λ _. refl)
     refl
 
 -- what a slot holds is renamed by the number in the slot of that entry
-module _ (r : Raw) (s : Still r) (ranked : Ranked r r.given) (t : Slot) (in-t : Within r.shape r.given t) where
+module _ (r : Raw) (s : Still r) (ranked : Ranked r r.given) (t : Slot) (in_t : Within r.shape r.given t) where
   pub new_number : (w n : ℕ) → (shown r).held t ≡ Some w → n ≡ word r.ws r.shape.base r.shape.links w 2 → (w < r.given) × (n ≡ rank (shown r).forward w) × (n + 1 < 65537)
   new_number w n e hn =
       let h = s.given t w e in
@@ -102,20 +102,20 @@ module _ (r : Raw) (s : Still r) (ranked : Ranked r r.given) (t : Slot) (in-t : 
 
   module _ (w n at : ℕ) (is : (shown r).held t ≡ Some w) (hn : n ≡ word r.ws r.shape.base r.shape.links w 2) (p : at ≡ spot r.shape t) where
     shown_renamed : shown (with r (set r.ws at (n + 1)) r.given r.waits) ≡ renames (λ u. same u t) (shown r)
-    shown_renamed = rw p (shown_hold r s.fits t (n + 1) in-t ∙ ap (λ (o : Option ℕ). hold t o (shown r)) (decode_more n)
+    shown_renamed = rw p (shown_hold r s.fits t (n + 1) in_t ∙ ap (λ (o : Option ℕ). hold t o (shown r)) (decode_more n)
         ∙ renames_one (shown r) t (put t (Some n) (shown r).held)
         (put_here t (Some n) (shown r).held ∙ ap Some (new_number w n is hn).1 ∙ ap (renamed (rank (shown r).forward)) (sym is))
         (put_there t (Some n) (shown r).held))
 
     goes_rename : Goes r (renames (λ u. same u t)) (with r (set r.ws at (n + 1)) r.given r.waits)
     goes_rename = goes_by r (set r.ws at (n + 1)) (renames (λ u. same u t)) s (length-set r.ws at (n + 1))
-        (λ i c. get_or-set_other r.ws at i (n + 1) 0 (λ q. spot_copied r s.fits t in-t i c (q ∙ p)))
+        (λ i c. get_or-set_other r.ws at i (n + 1) 0 (λ q. spot_copied r s.fits t in_t i c (q ∙ p)))
         shown_renamed
         (λ u v e. renamed_given (shown r).forward ((shown r).held u) r.given (s.given u) (same u t) v e)
 
     ranked_rename : Ranked (with r (set r.ws at (n + 1)) r.given r.waits) r.given
     unfolding word
-    ranked_rename x hx = get_or-set_other r.ws at (place r.shape.base r.shape.links x 2) (n + 1) 0 (λ q. spot_apart r s.fits t in-t x 2 (omega arith) (sym (q ∙ p)))
+    ranked_rename x hx = get_or-set_other r.ws at (place r.shape.base r.shape.links x 2) (n + 1) 0 (λ q. spot_apart r s.fits t in_t x 2 (omega arith) (sym (q ∙ p)))
         ∙ ranked x hx ∙ ap (λ (z : State). rank z.forward x) (sym shown_renamed)
 
     pub renames_slot : Goes r (renames (λ u. same u t)) (with r (set r.ws at (n + 1)) r.given r.waits) × Ranked (with r (set r.ws at (n + 1)) r.given r.waits) r.given
