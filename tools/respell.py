@@ -15,7 +15,6 @@ import sys
 
 SPLIT = re.compile(r'([\s(){}\[\];.,]+)')
 HEAD = re.compile(r'^(?:(?:pub|abbrev|unfoldable|mutual)\s+)*(data\s+|record\s+)?([^\s:(){}\[\].,;]+)')
-ITEMS = re.compile(r'(Rattle\.std|Rattle\.[a-z_0-9]+\.(?:specs|proofs)|mathlib|Prim|lib)\S*?\.\{([^}]*)\}')
 
 
 def antt_files():

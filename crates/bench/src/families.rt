@@ -34,7 +34,7 @@ fn begun(heap: Global, links: u32) -> Result<Vec<u32>, AllocError> {
 }
 
 // A link without rules.
-pub fn chain(heap: Global) -> Result<Vec<u32>, AllocError> {
+pub(crate) fn chain(heap: Global) -> Result<Vec<u32>, AllocError> {
     let mut words = begun(heap, 1)?;
     words.push(0x5000_0000)?;
     push_end(&mut words)?;
@@ -42,7 +42,7 @@ pub fn chain(heap: Global) -> Result<Vec<u32>, AllocError> {
 }
 
 // Two links that turn back after m and after n steps, and go in either order: m times n entries.
-pub fn torus(heap: Global, m: u32, n: u32) -> Result<Vec<u32>, AllocError> {
+pub(crate) fn torus(heap: Global, m: u32, n: u32) -> Result<Vec<u32>, AllocError> {
     let mut words = begun(heap, 2)?;
     push_rule(&mut words, 0, m, 1, 0)?;
     push_rule(&mut words, 0, 0, 1, n)?;
@@ -57,7 +57,7 @@ pub fn torus(heap: Global, m: u32, n: u32) -> Result<Vec<u32>, AllocError> {
 }
 
 // A source link that becomes a target link.
-pub fn carried(heap: Global) -> Result<Vec<u32>, AllocError> {
+pub(crate) fn carried(heap: Global) -> Result<Vec<u32>, AllocError> {
     let mut words = Vec::new(heap);
     words.push(0x1000_0001)?;
     words.push(0x2000_0000)?;

@@ -29,7 +29,7 @@ fn reason(refusal: Refusal) -> &'static str {
 }
 
 // A fault, in words and by its numbers.
-pub fn tell_fault(rt: &impl Print, what: &str, fault: Fault) -> io::Result<()> {
+pub(crate) fn tell_fault(rt: &impl Print, what: &str, fault: Fault) -> io::Result<()> {
     let why = reason(fault.refusal);
     let number = fault.refusal.number();
     let layer = fault.refusal.layer();
@@ -38,7 +38,12 @@ pub fn tell_fault(rt: &impl Print, what: &str, fault: Fault) -> io::Result<()> {
 }
 
 // A schema in a line: its kinds, and the ends of its links.
-pub fn tell_schema(rt: &impl Print, name: &str, words: &[u32], schema: Schema) -> io::Result<()> {
+pub(crate) fn tell_schema(
+    rt: &impl Print,
+    name: &str,
+    words: &[u32],
+    schema: Schema,
+) -> io::Result<()> {
     let kinds = schema.kinds;
     print!(rt; "{name} schema: kinds {kinds}, links")?;
     for l in 0..schema.links {
@@ -51,7 +56,7 @@ pub fn tell_schema(rt: &impl Print, name: &str, words: &[u32], schema: Schema) -
 }
 
 // The records of each kind of the source.
-pub fn tell_source<R: Register>(rt: &impl Print, source: &R) -> io::Result<()> {
+pub(crate) fn tell_source<R: Register>(rt: &impl Print, source: &R) -> io::Result<()> {
     print!(rt; "source records by kind:")?;
     for kind in 0..source.kinds() {
         let records = source.count(kind);
@@ -61,7 +66,7 @@ pub fn tell_source<R: Register>(rt: &impl Print, source: &R) -> io::Result<()> {
 }
 
 // The finished words by their tokens: the count of each kind, where each link leads each record, and each landing.
-pub fn tell_register(rt: &impl Print, words: &[u32]) -> io::Result<()> {
+pub(crate) fn tell_register(rt: &impl Print, words: &[u32]) -> io::Result<()> {
     let mut kind = 0u32;
     let mut link = 0u32;
     for i in 0..words.len() {
@@ -85,7 +90,7 @@ pub fn tell_register(rt: &impl Print, words: &[u32]) -> io::Result<()> {
 }
 
 // The words in hexadecimal, eight to a line.
-pub fn tell_words(rt: &impl Print, words: &[u32]) -> io::Result<()> {
+pub(crate) fn tell_words(rt: &impl Print, words: &[u32]) -> io::Result<()> {
     for i in 0..words.len() {
         let word = words[i];
         let behind = if i % 8 == 7 || i + 1 == words.len() {

@@ -24,7 +24,7 @@ mod sizes;
 
 // Writes the register file of a complete table whose numbering stands in its words; tells how many words.
 // A refusal changes nothing, and what stands behind the words is kept.
-pub fn write(
+fn write(
     rows: &Rows,
     found: &Found,
     met: usize,

@@ -52,7 +52,7 @@ impl Rows<'_> {
     }
 
     // Why `land` is refused, if it is.
-    pub fn land_fault(&self, k: u32, q: u32) -> Option<Refusal>
+    pub(crate) fn land_fault(&self, k: u32, q: u32) -> Option<Refusal>
         requires { Fits (raw self.now) }
         ensures is { (L : Loaded) → Carries L (raw self.now).shape → result ≡ land_fault L (view self.now) k q }
         ensures room { result ≡ None → Has self.now (Slot.Landing k q) × (self.now.given < self.now.capacity) }
@@ -82,7 +82,7 @@ impl Rows<'_> {
     }
 
     // Why `define` is refused, if it is.
-    pub fn define_fault(&self, e: u32, l: u32, from: u32) -> Option<Refusal>
+    pub(crate) fn define_fault(&self, e: u32, l: u32, from: u32) -> Option<Refusal>
         requires { Fits (raw self.now) }
         ensures is { (L : Loaded) → Carries L (raw self.now).shape → (l < self.now.links → L.from l ≡ from) → result ≡ define_fault L (view self.now) e l }
         ensures room { result ≡ None → Has self.now (Slot.Cell e l) × (self.now.given < self.now.capacity) }

@@ -56,7 +56,7 @@ impl Rows<'_> {
     }
 
     // Does what a check found, and tells its outcome.
-    pub fn act(&mut self, what: Effect) -> Outcome
+    pub(crate) fn act(&mut self, what: Effect) -> Outcome
         requires tidy { Tidy (raw self.old) }
         requires named { Named (raw self.old) (shown_effect what) }
         ensures told { result ≡ outcome (shown_effect what) }

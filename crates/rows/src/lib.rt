@@ -151,7 +151,7 @@ impl Rows<'_> {
     }
 
     // The forward of `e`.
-    pub fn forward(&self, e: u32) -> u32
+    pub(crate) fn forward(&self, e: u32) -> u32
         requires fits { Fits (raw self.now) }
         requires e_lt_given { e < self.now.given }
         ensures { result ≡ (view self.now).forward e }
@@ -160,7 +160,7 @@ impl Rows<'_> {
     }
 
     // The entry that `e` has come to: along forwards to one that is its own.
-    pub fn living_end(&self, e: u32) -> u32
+    pub(crate) fn living_end(&self, e: u32) -> u32
         requires tidy { Tidy (raw self.now) }
         requires e_lt_given { e < self.now.given }
         ensures { result ≡ end (view self.now) e }
@@ -175,7 +175,7 @@ impl Rows<'_> {
     }
 
     // Writes the entry `v` into the slot `t`.
-    pub fn fill(&mut self, t: Slot, v: u32)
+    pub(crate) fn fill(&mut self, t: Slot, v: u32)
         requires tidy { Tidy (raw self.old) }
         requires has { Has self.old t }
         requires v_lt_given { v < self.old.given }
@@ -213,7 +213,7 @@ impl Rows<'_> {
     }
 
     // A new entry of the kind `k` fills the slot `t`.
-    pub fn born(&mut self, k: u32, t: Slot) -> u32
+    pub(crate) fn born(&mut self, k: u32, t: Slot) -> u32
         requires tidy { Tidy (raw self.old) }
         requires has { Has self.old t }
         requires given_lt_capacity { self.old.given < self.old.capacity }

@@ -24,7 +24,7 @@ fn swap(words: &mut [u32], at: usize, n: usize, old: u32, new: u32)
 
 impl Rows<'_> {
     // Merges the living ends of `a` and `b`.
-    pub fn merge(&mut self, a: u32, b: u32)
+    pub(crate) fn merge(&mut self, a: u32, b: u32)
         requires tidy { Tidy (raw self.old) }
         requires a_lt_given { a < self.old.given }
         requires b_lt_given { b < self.old.given }

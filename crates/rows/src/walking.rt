@@ -25,7 +25,7 @@ fn link(step: u32) -> u32
 
 impl Rows<'_> {
     // Where the path leads from `e`, if each of its cells is filled.
-    pub fn walk(&self, path: &[u32], e: u32) -> Option<u32>
+    pub(crate) fn walk(&self, path: &[u32], e: u32) -> Option<u32>
         requires { Fits (raw self.now) }
         ensures { result ≡ ended_at (walk (view self.now).held e (links path.now)) }
     {
@@ -50,7 +50,7 @@ impl Rows<'_> {
     }
 
     // The side that walks the path from `e`: all but its last step, and then that one.
-    pub fn side(&self, path: &[u32], e: u32) -> Side
+    pub(crate) fn side(&self, path: &[u32], e: u32) -> Side
         requires { Fits (raw self.now) }
         ensures { shown_side result ≡ side_of (walk (view self.now).held e (links path.now)) }
     {
@@ -64,7 +64,7 @@ impl Rows<'_> {
     }
 
     // The side that goes through the slot `t` first, and then walks the path.
-    pub fn side_in(&self, t: Slot, path: &[u32]) -> Side
+    pub(crate) fn side_in(&self, t: Slot, path: &[u32]) -> Side
         requires { Fits (raw self.now) }
         ensures { shown_side result ≡ side_of (walk_in (view self.now).held (slot t) (links path.now)) }
     {

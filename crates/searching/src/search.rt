@@ -37,7 +37,7 @@ pub trait Search {
 }
 
 // What is to be done at the lowest number where anything is.
-pub fn lowest<S: Search>(
+pub(crate) fn lowest<S: Search>(
     search: &S,
     rows: &Rows,
     found: &Found,

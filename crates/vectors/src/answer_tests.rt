@@ -8,39 +8,32 @@ use registers::held::Held;
 use registers::register::Register;
 use registers::wheel::Wheel;
 use std::process::Abort;
-use std::test::Fail;
 use words::faults::Fault;
 
-fn answers<R: Register>(rt: &impl Abort, register: &R, row: usize, ask: Ask) -> Result<(), Fail> {
+fn answers<R: Register>(rt: &impl Abort, register: &R, row: usize, ask: Ask) {
     match ask {
         Ask::Kinds(n) => {
             assert_eq!(rt; (row, register.kinds()), (row, n));
-            Ok(())
-        },
+        }
         Ask::Links(n) => {
             assert_eq!(rt; (row, register.links()), (row, n));
-            Ok(())
-        },
+        }
         Ask::Ends(link, ends) => {
             assert_eq!(rt; (row, register.ends(link)), (row, ends));
-            Ok(())
-        },
+        }
         Ask::Count(kind, n) => {
             assert_eq!(rt; (row, register.count(kind)), (row, n));
-            Ok(())
-        },
+        }
         Ask::Follow(link, record, led) => {
             assert_eq!(rt; (row, register.follow(link, record)), (row, led));
-            Ok(())
-        },
+        }
     }
 }
 
-fn answers_each<R: Register>(rt: &impl Abort, register: &R, table: &[Ask]) -> Result<(), Fail> {
+fn answers_each<R: Register>(rt: &impl Abort, register: &R, table: &[Ask]) {
     for (row, ask) in table.iter().enumerate() {
-        answers(rt, register, row, *ask)?;
+        answers(rt, register, row, *ask);
     }
-    Ok(())
 }
 
 // The fault of a file that a held register refuses to take.
@@ -53,43 +46,41 @@ fn refusal<'a>(held: &mut Held<'a>, words: &'a [u32]) -> Option<Fault> {
 
 // A held register answers by its file, and keeps it when another is refused.
 #[test]
-fn held_answers(rt: HostRuntime) -> Result<(), Fail> {
+fn held_answers(rt: HostRuntime) {
     let mut held = Held::new();
-    answers_each(&rt, &held, &NOTHING)?;
+    answers_each(&rt, &held, &NOTHING);
     for case in &TAKES {
         assert_eq!(rt; refusal(&mut held, case.0), case.1);
-        answers_each(&rt, &held, case.2)?;
+        answers_each(&rt, &held, case.2);
     }
-    Ok(())
 }
 
 #[test]
-fn wheel_answers(rt: HostRuntime) -> Result<(), Fail> {
+fn wheel_answers(rt: HostRuntime) {
     for case in &WHEELS {
-        answers_each(&rt, &Wheel::new(case.0, case.1), case.2)?;
+        answers_each(&rt, &Wheel::new(case.0, case.1), case.2);
     }
-    Ok(())
 }
 
 #[test]
-fn blank_over_held_answers(rt: HostRuntime) -> Result<(), Fail> {
+fn blank_over_held_answers(rt: HostRuntime) {
     let mut held = Held::new();
-    answers_each(&rt, &Blank::over(held), &NOTHING)?;
+    answers_each(&rt, &Blank::over(held), &NOTHING);
     assert_eq!(rt; refusal(&mut held, &FOUR), None);
-    answers_each(&rt, &Blank::over(held), &FOUR_BLANK)?;
+    answers_each(&rt, &Blank::over(held), &FOUR_BLANK);
     let twice = Blank::over(Blank::over(held));
-    answers_each(&rt, &twice, &FOUR_BLANK_BLANK)?;
-    answers_each(&rt, &Blank::over(Blank::over(twice)), &FOUR_GONE)
+    answers_each(&rt, &twice, &FOUR_BLANK_BLANK);
+    answers_each(&rt, &Blank::over(Blank::over(twice)), &FOUR_GONE);
 }
 
 #[test]
-fn blank_over_wheel_answers(rt: HostRuntime) -> Result<(), Fail> {
+fn blank_over_wheel_answers(rt: HostRuntime) {
     let wheel = Wheel::new(3, &[1]);
-    answers_each(&rt, &Blank::over(wheel), &WHEEL_BLANK)?;
-    answers_each(&rt, &Blank::over(Blank::over(wheel)), &WHEEL_BLANK_BLANK)?;
+    answers_each(&rt, &Blank::over(wheel), &WHEEL_BLANK);
+    answers_each(&rt, &Blank::over(Blank::over(wheel)), &WHEEL_BLANK_BLANK);
     answers_each(
         &rt,
         &Blank::over(Blank::over(Blank::over(Blank::over(wheel)))),
         &FOUR_GONE,
-    )
+    );
 }

@@ -63,13 +63,13 @@ fn refuses(
     );
 }
 
-pub fn refuses_each(rt: &impl Abort, reader: Reader, table: &[Refused]) {
+pub(crate) fn refuses_each(rt: &impl Abort, reader: Reader, table: &[Refused]) {
     for (row, case) in table.iter().enumerate() {
         refuses(rt, reader, row, case.0, case.1, case.2);
     }
 }
 
-pub fn refuses_worded(rt: &impl Abort, reader: Reader, table: &[Worded]) {
+pub(crate) fn refuses_worded(rt: &impl Abort, reader: Reader, table: &[Worded]) {
     for (row, case) in table.iter().enumerate() {
         let fault = Fault {
             refusal: case.1,
@@ -91,14 +91,14 @@ fn push_run(words: &mut Vec<u32>, run: Run) -> Result<(), AllocError> {
 }
 
 // Adds the words of all runs.
-pub fn push_runs(words: &mut Vec<u32>, runs: &[Run]) -> Result<(), AllocError> {
+pub(crate) fn push_runs(words: &mut Vec<u32>, runs: &[Run]) -> Result<(), AllocError> {
     for run in runs {
         push_run(words, *run)?;
     }
     Ok(())
 }
 
-pub fn refuses_runs(
+pub(crate) fn refuses_runs(
     rt: &impl Abort,
     heap: Global,
     reader: Reader,
@@ -113,7 +113,12 @@ pub fn refuses_runs(
 }
 
 // The words with another one at a place, or with one more.
-pub fn edited(heap: Global, words: &[u32], at: usize, word: u32) -> Result<Vec<u32>, AllocError> {
+pub(crate) fn edited(
+    heap: Global,
+    words: &[u32],
+    at: usize,
+    word: u32,
+) -> Result<Vec<u32>, AllocError> {
     let mut copy = words.to_vec(heap)?;
     match copy.get_mut(at) {
         Some(old) => *old = word,
@@ -122,7 +127,7 @@ pub fn edited(heap: Global, words: &[u32], at: usize, word: u32) -> Result<Vec<u
     Ok(copy)
 }
 
-pub fn refuses_edits(
+pub(crate) fn refuses_edits(
     rt: &impl Abort,
     heap: Global,
     reader: Reader,
@@ -137,7 +142,7 @@ pub fn refuses_edits(
 }
 
 // The first words of a whole file, however many: the next one is missing.
-pub fn misses_each(rt: &impl Abort, reader: Reader, words: &[u32]) {
+pub(crate) fn misses_each(rt: &impl Abort, reader: Reader, words: &[u32]) {
     for n in 0..words.len() {
         refuses(rt, reader, n, &words[0..n], Refusal::Missing, n);
     }
@@ -167,7 +172,7 @@ fn refuses_tags_at(
     Ok(())
 }
 
-pub fn refuses_tags(
+pub(crate) fn refuses_tags(
     rt: &impl Abort,
     heap: Global,
     reader: Reader,
@@ -208,7 +213,7 @@ fn refuses_bits_at(
     Ok(())
 }
 
-pub fn refuses_bits(
+pub(crate) fn refuses_bits(
     rt: &impl Abort,
     heap: Global,
     reader: Reader,
