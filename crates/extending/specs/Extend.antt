@@ -1,5 +1,5 @@
 -- From the bytes of a problem and of a register with blanks to those of the register that the problem carries it to.
-use Rattle.std.specs.Prelude.{◌≡◌, ℕ, suc, cond, List, [], ◌∷◌, length, take, drop, replicate, Ok, Err, Result, ◌==◌, ◌≢◌, nat_lt, slice_index}
+use Rattle.std.specs.Prelude.{◌≡◌, ℕ, suc, ◌+◌, ◌<◌, ◌≤◌, cond, List, [], ◌∷◌, length, take, drop, replicate, Ok, Err, Result, ◌==◌, ◌≢◌, nat_lt, slice_index}
 use Rattle.words.specs.declared.faults.Fault.{Fault}
 use Rattle.words.specs.declared.faults.Refusal.{Refusal}
 use Rattle.words.specs.declared.faults.Refusal.TheVariants as refusal
@@ -31,6 +31,12 @@ use Rattle.streams.specs.Sending.{whole, faulted}
 unfoldable pub problem_size : List ℕ → ℕ
 problem_size [] = 0
 problem_size (w ∷ ws) = cond (tag w == number tags.End) 1 (suc (problem_size ws))
+
+-- the first n words end with the first word that has the end tag, or they are all words and none before the last has it
+pub record PartedAt (ws : List ℕ) (n : ℕ) : Type 0 where
+  pub within : n ≤ length ws
+  pub none_before : (k : ℕ) → k + 1 < n → tag (slice_index ws k) ≢ number tags.End
+  pub ends : n < length ws → (k : ℕ) × (k + 1 ≡ n) × (tag (slice_index ws k) ≡ number tags.End)
 
 abbrev pub problem_part : List ℕ → List ℕ
 problem_part ws = take (problem_size ws) ws
