@@ -11,7 +11,7 @@ use crate::paths::Lead;
 use problems::{Found, Schema};
 use words::reading::fields_at;
 
-// The ends of a link of a schema in the words; 0 and 0 of a link that there is not.
+// The ends of a link of a schema in the words; any of a link that there is not.
 pub fn schema_ends(words: &[u32], schema: Schema, l: u32) -> (u32, u32)
     requires { LinkedIn words.now schema }
     ensures from { l < schema.links → result.0 ≡ fields (slice_index words.now (schema.place + l)) / 256 }
@@ -25,7 +25,7 @@ pub fn schema_ends(words: &[u32], schema: Schema, l: u32) -> (u32, u32)
 }
 
 impl Rows<'_> {
-    // The ends of the target link `l`; 0 and 0 of a link that there is not.
+    // The ends of the target link `l`; any of a link that there is not.
     pub fn link_ends(&self, found: &Found, l: u32) -> (u32, u32)
         requires { Standing (raw self.now) found.now }
         ensures { (L : Loaded) → Stands L (raw self.now) found.now → l < L.links → (L.from l ≡ result.0) × (L.to l ≡ result.1) }
@@ -33,7 +33,7 @@ impl Rows<'_> {
         schema_ends(self.words, found.target, l)
     }
 
-    // The target kind of the source kind `k`; 0 of a kind that there is not.
+    // The target kind of the source kind `k`; any of a kind that there is not.
     pub fn mapped(&self, found: &Found, k: u32) -> u32
         requires { Standing (raw self.now) found.now }
         ensures { (L : Loaded) → Stands L (raw self.now) found.now → k < L.source_kinds → L.kind_map k ≡ result }
@@ -44,7 +44,7 @@ impl Rows<'_> {
         fields_at(self.words, found.maps + k as usize) % 256
     }
 
-    // The ends of the source link `i`; 0 and 0 of a link that there is not.
+    // The ends of the source link `i`; any of a link that there is not.
     pub fn source_ends(&self, found: &Found, i: u32) -> (u32, u32)
         requires { Standing (raw self.now) found.now }
         ensures { (L : Loaded) → Stands L (raw self.now) found.now → i < L.source_links → (L.source_from i ≡ result.0) × (L.source_to i ≡ result.1) }
@@ -52,7 +52,7 @@ impl Rows<'_> {
         schema_ends(self.words, found.source, i)
     }
 
-    // The record `q` that the source link `i` leaves, and where it leads it; record 0 where there is no such link or record.
+    // The record `q` that the source link `i` leaves, and where it leads it; any record where there is no such link or record.
     pub fn lead(&self, found: &Found, leads: &[usize; 64], i: u32, q: u32) -> Lead
         requires fits { Fits (raw self.now) }
         requires holding { Holding (raw self.now) found.now leads.now }
