@@ -11,6 +11,13 @@ use crate::paths::Lead;
 use problems::{Found, Schema};
 use words::reading::fields_at;
 
+// What was loaded: the outline of the problem, and where the leads of each source link begin.
+#[derive(Clone, Copy)]
+pub struct Load {
+    pub found: Found,
+    pub leads: [usize; 64],
+}
+
 // The ends of a link of a schema in the words; any of a link that there is not.
 pub fn schema_ends(words: &[u32], schema: Schema, l: u32) -> (u32, u32)
     requires { LinkedIn words.now schema }
