@@ -7,7 +7,7 @@ use Rattle.std.proofs.lemmas.Bool.Decides.{nat_tests, eqb_tells}
 use Rattle.machine.specs.State.{Slot, cell, landing}
 use Rattle.machine.specs.Settling.{swap, rehold}
 use Rattle.machine.proofs.Settle.{swap_held}
-use Rattle.rows.specs.Layout.{Raw, Fits, Tidy, Becomes, Copied, Within, inside, spot, place, word, decode, shown, kind_of, forward_of, waiting_of}
+use Rattle.rows.specs.Layout.{Raw, Tidy, Becomes, Copied, Within, inside, spot, place, word, decode, shown, kind_of, forward_of, waiting_of}
 use Rattle.rows.specs.Writes.{changed, changed_rows, swapped, over}
 use Rattle.rows.proofs.Places.{inside_true, landing_low, copied_low}
 use Rattle.rows.proofs.Writes.{length_changed, length_rows, changed_kept, get_d_changed, rows_low, word_rows}
@@ -29,9 +29,6 @@ decode_swapped v u w = elim (eqb_tells w 0) [
 
 -- the rows one by one, as the code comes to them
 module _ (f : ℕ → ℕ) (a b : Raw) (e : ℕ) (p : b ≡ over a (changed_rows f a.ws a.shape.base a.shape.links e)) where
-  pub rows_fit : Fits a → Fits b
-  rows_fit ok = rw p (fits_with a (changed_rows f a.ws a.shape.base a.shape.links e) a.given a.waits ok (length_rows f a.ws a.shape.base a.shape.links e) ok.few)
-
   pub rows_more : (c : Raw) → c ≡ over b (changed f b.ws (place b.shape.base b.shape.links e 3) b.shape.links) →
       c ≡ over a (changed_rows f a.ws a.shape.base a.shape.links (e + 1))
   rows_more c q = q ∙ ap (λ (z : Raw). over z (changed f z.ws (place z.shape.base z.shape.links e 3) z.shape.links)) p

@@ -5,7 +5,7 @@ ghost use Rattle.machine.specs.State.{cell, landing, lives};
 ghost use Rattle.machine.specs.Sweeping.{rank};
 ghost use Rattle.machine.specs.Calls.{land, define, apply, land_fault, define_fault};
 ghost use Rattle.machine.specs.Tables.{answered};
-ghost use Rattle.rows.specs.Layout.{Fits, Tidy, Becomes, Carries};
+ghost use Rattle.rows.specs.Layout.{Tidy, Becomes, Carries};
 ghost use Rattle.rows.specs.View.{raw, view, slot, Has};
 ghost use Rattle.rows.specs.Calls.{give_fault};
 
@@ -15,7 +15,6 @@ use words::faults::Refusal;
 impl Rows<'_> {
     // How many entries live.
     pub fn living(&self) -> u32
-        requires { Fits (raw self.now) }
         ensures { result ≡ rank (view self.now).forward self.now.given }
     {
         let n = self.given as u32;
@@ -30,7 +29,6 @@ impl Rows<'_> {
 
     // Why no new entry can fill the slot `t`, if none can; `there` says whether there is such a slot.
     fn give_fault(&self, there: bool, t: Slot) -> Option<Refusal>
-        requires { Fits (raw self.now) }
         ensures { result ≡ give_fault (view self.now) there (slot t) self.now.capacity }
     {
         if self.waits > 0 {
@@ -53,7 +51,6 @@ impl Rows<'_> {
 
     // Why `land` is refused, if it is.
     pub(crate) fn land_fault(&self, k: u32, q: u32) -> Option<Refusal>
-        requires { Fits (raw self.now) }
         ensures is { (L : Loaded) → Carries L (raw self.now).shape → result ≡ land_fault L (view self.now) k q }
         ensures room { result ≡ None → Has self.now (Slot.Landing k q) × (self.now.given < self.now.capacity) }
     {
@@ -75,7 +72,6 @@ impl Rows<'_> {
 
     // Whether `e` lives and has the kind `from`, which the link `l` leaves.
     pub fn leaves(&self, e: u32, l: u32, from: u32) -> bool
-        requires { Fits (raw self.now) }
         ensures { result ≡ (lives (view self.now) e && (nat_lt l self.now.links && (view self.now).kind e == from)) }
     {
         self.lives(e) && (l as usize) < self.links && self.kind(e) == from
@@ -83,7 +79,6 @@ impl Rows<'_> {
 
     // Why `define` is refused, if it is.
     pub(crate) fn define_fault(&self, e: u32, l: u32, from: u32) -> Option<Refusal>
-        requires { Fits (raw self.now) }
         ensures is { (L : Loaded) → Carries L (raw self.now).shape → (l < self.now.links → L.from l ≡ from) → result ≡ define_fault L (view self.now) e l }
         ensures room { result ≡ None → Has self.now (Slot.Cell e l) × (self.now.given < self.now.capacity) }
     {

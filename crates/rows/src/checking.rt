@@ -4,7 +4,7 @@ ghost use Rattle.machine.specs.State.{landing};
 ghost use Rattle.machine.specs.Walking.{walk, walk_in};
 ghost use Rattle.machine.specs.Checking.{sides, effect};
 ghost use Rattle.machine.specs.Tables.{outcome};
-ghost use Rattle.rows.specs.Layout.{Fits, Tidy, Becomes};
+ghost use Rattle.rows.specs.Layout.{Tidy, Becomes};
 ghost use Rattle.rows.specs.View.{raw, view};
 ghost use Rattle.rows.specs.Walks.{links, found, shown_side, shown_effect, Named};
 
@@ -37,7 +37,6 @@ fn sides(left: Side, right: Side) -> Effect
 impl Rows<'_> {
     // What the check of a rule with these paths finds at `e`.
     pub fn rule_effect(&self, left: &[u32], right: &[u32], e: u32) -> Effect
-        requires { Fits (raw self.now) }
         ensures { shown_effect result ≡ sides (walk (view self.now).held e (links left.now)) (walk (view self.now).held e (links right.now)) }
     {
         sides(self.side(left, e), self.side(right, e))
@@ -46,7 +45,6 @@ impl Rows<'_> {
     // What the check of a source link finds at the record `q` of the kind `from`, which it leads to the record `led` of the kind `to`;
     // the path is the link's.
     pub fn link_effect(&self, from: u32, q: u32, to: u32, led: u32, path: &[u32]) -> Effect
-        requires { Fits (raw self.now) }
         ensures { shown_effect result ≡ sides (walk_in (view self.now).held (landing to led) []) (walk_in (view self.now).held (landing from q) (links path.now)) }
     {
         sides(

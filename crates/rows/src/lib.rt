@@ -1,14 +1,9 @@
-// A table in lent work words, as rows of words. Nothing here is an invariant: each function says what it needs.
+// A table in lent work words, as rows of words.
 #![tactic(auto)]
 
-ghost use Rattle.std.specs.Prelude.{◌≡◌, ◌+◌, ◌-◌, ◌*◌, ◌<◌, ◌≤◌, length, Some, None, slice_index};
-ghost use Rattle.machine.specs.State.{cell, landing, lives, hold, born};
-ghost use Rattle.machine.specs.Merging.{end, die};
-ghost use Rattle.machine.specs.Settling.{pop};
-ghost use Rattle.rows.specs.Layout.{Fits, Tidy, Becomes, spot};
-ghost use Rattle.rows.specs.View.{raw, view, slot, has, Has, row};
-ghost use Rattle.rows.specs.View as place;
-ghost use Rattle.rows.specs.Writes.{changed, emptied, added};
+ghost use Rattle.std.specs.Prelude.{◌≡◌, ◌+◌, ◌≤◌, length};
+ghost use Rattle.rows.specs.Layout.{Fits};
+ghost use Rattle.rows.specs.Writes.{changed, emptied};
 
 pub mod calls;
 pub mod checking;
@@ -34,6 +29,7 @@ pub enum Slot {
 }
 
 // The work words, where their parts begin, how many entries were given, and which slots the waiting list has.
+// The numbers fit the words in every value. That the table is tidy is a condition and no field: a death, a sweep and a numbering break it between two writes.
 #[derive(Drop)]
 pub struct Rows<'a> {
     pub words: &'a mut [u32],
@@ -46,6 +42,13 @@ pub struct Rows<'a> {
     pub given: usize,
     pub front: usize,
     pub waits: usize,
+    pub ghost fits: { Fits (record {
+      ws = words.now;
+      shape = record { kinds = source.kinds; counts = source.counts; starts = source.starts; lands = lands; records = records; base = base; links = links; capacity = capacity };
+      given = given;
+      front = front;
+      waits = waits;
+    }) },
 }
 
 // Writes 0 into the `n` words from `at` on.
@@ -59,9 +62,17 @@ fn clear(words: &mut [u32], at: usize, n: usize)
 }
 
 impl Rows<'_> {
+    ghost use Rattle.std.specs.Prelude.{◌<◌, Some, None, slice_index};
+    ghost use Rattle.machine.specs.State.{cell, landing, lives, hold, born};
+    ghost use Rattle.machine.specs.Merging.{end, die};
+    ghost use Rattle.machine.specs.Settling.{pop};
+    ghost use Rattle.rows.specs.Layout.{Tidy, Becomes, spot};
+    ghost use Rattle.rows.specs.View.{raw, view, slot, has, Has, row};
+    ghost use Rattle.rows.specs.View as place;
+    ghost use Rattle.rows.specs.Writes.{added};
+
     // The place of word `j` of entry `e`.
     pub fn at(&self, e: usize, j: usize) -> usize
-        requires rows_fit { Fits (raw self.now) }
         requires e_lt_capacity { e < self.now.capacity }
         requires j_bound { j < self.now.links + 3 }
         ensures is { result ≡ place.at self.now e j }
@@ -72,7 +83,6 @@ impl Rows<'_> {
 
     // Word `j` of entry `e`.
     pub fn read(&self, e: usize, j: usize) -> u32
-        requires fits { Fits (raw self.now) }
         requires e_lt_capacity { e < self.now.capacity }
         requires j_bound { j < self.now.links + 3 }
         ensures { result ≡ row self.now e j }
@@ -82,7 +92,6 @@ impl Rows<'_> {
 
     // Whether the slot `t` has a word.
     pub fn has(&self, t: Slot) -> bool
-        requires { Fits (raw self.now) }
         ensures { result ≡ has self.now t }
     {
         match t {
@@ -94,8 +103,7 @@ impl Rows<'_> {
 
     // The place of the word of the slot `t`.
     fn place(&self, t: Slot) -> usize
-        requires rows_fit { Fits (raw self.now) }
-        requires has { Has self.now t }
+        requires { Has self.now t }
         ensures is { result ≡ spot (raw self.now).shape (slot t) }
         ensures fits { result < length self.now.words.now }
     {
@@ -107,7 +115,6 @@ impl Rows<'_> {
 
     // What the slot `t` holds.
     pub fn held(&self, t: Slot) -> Option<u32>
-        requires { Fits (raw self.now) }
         ensures { result ≡ (view self.now).held (slot t) }
     {
         if !self.has(t) {
@@ -119,7 +126,6 @@ impl Rows<'_> {
 
     // The cell of entry `e` at link `l`.
     pub fn cell(&self, e: u32, l: u32) -> Option<u32>
-        requires { Fits (raw self.now) }
         ensures { result ≡ (view self.now).held (cell e l) }
     {
         self.held(Slot::Cell(e, l))
@@ -127,7 +133,6 @@ impl Rows<'_> {
 
     // The landing of record `q` of the source kind `k`.
     pub fn landing(&self, k: u32, q: u32) -> Option<u32>
-        requires { Fits (raw self.now) }
         ensures { result ≡ (view self.now).held (landing k q) }
     {
         self.held(Slot::Landing(k, q))
@@ -135,7 +140,6 @@ impl Rows<'_> {
 
     // Whether `e` is a living entry.
     pub fn lives(&self, e: u32) -> bool
-        requires { Fits (raw self.now) }
         ensures { result ≡ lives (view self.now) e }
     {
         (e as usize) < self.given && self.read(e as usize, 1) == e
@@ -143,8 +147,7 @@ impl Rows<'_> {
 
     // The kind of `e`.
     pub fn kind(&self, e: u32) -> u32
-        requires fits { Fits (raw self.now) }
-        requires e_lt_given { e < self.now.given }
+        requires { e < self.now.given }
         ensures { result ≡ (view self.now).kind e }
     {
         self.read(e as usize, 0)
@@ -152,8 +155,7 @@ impl Rows<'_> {
 
     // The forward of `e`.
     pub(crate) fn forward(&self, e: u32) -> u32
-        requires fits { Fits (raw self.now) }
-        requires e_lt_given { e < self.now.given }
+        requires { e < self.now.given }
         ensures { result ≡ (view self.now).forward e }
     {
         self.read(e as usize, 1)

@@ -6,7 +6,7 @@ ghost use Rattle.machine.specs.State.{lives};
 ghost use Rattle.machine.specs.Checking.{rule_effect, link_effect};
 ghost use Rattle.machine.specs.Calls.{check_rule, check_link, apply, rule_fault, link_fault};
 ghost use Rattle.machine.specs.Tables.{outcome, answered};
-ghost use Rattle.rows.specs.Layout.{Fits, Tidy, Becomes};
+ghost use Rattle.rows.specs.Layout.{Tidy, Becomes};
 ghost use Rattle.rows.specs.View.{raw, view, has};
 ghost use Rattle.rows.specs.Walks.{links};
 ghost use Rattle.rows.specs.Standing.{Stands, Standing, parts_in, shown_parts, linked, rule_of, rule_found, shown_found, checked, led_effect, Leads, Leading};
@@ -49,7 +49,6 @@ fn parts_in<'b>(token: Option<Token<'b>>) -> Option<(u32, &'b [u32], &'b [u32])>
 impl Rows<'_> {
     // The rule `i`, if there is one: its first kind and its two paths.
     pub fn rule<'b>(&'b self, found: &Found, i: usize) -> Option<(u32, &'b [u32], &'b [u32])>
-        requires { Fits (raw self.now) }
         ensures { (L : Loaded) → Stands L (raw self.now) found.now → linked (shown_parts result) ≡ rule_of L i }
     {
         parts_in(rule_at(&self.words[..self.lands], found, i))
@@ -57,7 +56,6 @@ impl Rows<'_> {
 
     // The path of the source link `i`, which is empty where there is no such link.
     pub fn link_path<'b>(&'b self, found: &Found, i: usize) -> &'b [u32]
-        requires { Fits (raw self.now) }
         ensures { (L : Loaded) → Stands L (raw self.now) found.now → links result.now ≡ L.link_map i }
     {
         match parts_in(link_map_at(&self.words[..self.lands], found, i)) {
@@ -68,7 +66,6 @@ impl Rows<'_> {
 
     // Whether `e` lives and has that kind.
     fn lives_as(&self, e: u32, kind: u32) -> bool
-        requires { Fits (raw self.now) }
         ensures { result ≡ (lives (view self.now) e && (view self.now).kind e == kind) }
     {
         self.lives(e) && self.kind(e) == kind
@@ -76,7 +73,6 @@ impl Rows<'_> {
 
     // What the check of a rule finds at `e`, or why it is refused.
     fn rule_found(&self, rule: Option<(u32, &[u32], &[u32])>, e: u32) -> Result<Effect, Refusal>
-        requires { Fits (raw self.now) }
         ensures { shown_found result ≡ rule_found (view self.now) e (linked (shown_parts rule.entry)) }
     {
         if self.waits > 0 {
@@ -110,7 +106,6 @@ impl Rows<'_> {
 
     // Whether there is the source link `i`, and the record that it leads.
     pub(crate) fn has_lead(&self, found: &Found, i: usize, lead: Lead) -> bool
-        requires { Fits (raw self.now) }
         ensures { result ≡ (nat_lt i found.now.source.links && has self.now (Slot.Landing lead.from lead.q)) }
     {
         i < found.source.links && self.has(Slot::Landing(lead.from, lead.q))
@@ -118,7 +113,6 @@ impl Rows<'_> {
 
     // What the check of a source link finds where it leads as `lead` says, or why it is refused; `there` says whether it does lead there.
     fn link_found(&self, there: bool, lead: Lead, path: &[u32]) -> Result<Effect, Refusal>
-        requires { Fits (raw self.now) }
         ensures { shown_found result ≡ checked (view self.now) there (led_effect (view self.now) lead (links path.now)) }
     {
         if self.waits > 0 {

@@ -2,7 +2,6 @@
 ghost use Rattle.std.specs.Prelude.{◌≡◌, ◌+◌, ◌/◌, ◌%◌, ◌<◌, slice_index};
 ghost use Rattle.words.specs.Words.{fields};
 ghost use Rattle.machine.specs.Loaded.{Loaded};
-ghost use Rattle.rows.specs.Layout.{Fits};
 ghost use Rattle.rows.specs.View.{raw};
 ghost use Rattle.rows.specs.Standing.{Stands, Standing, LinkedIn, Leads, Holds, Holding};
 
@@ -61,8 +60,7 @@ impl Rows<'_> {
 
     // The record `q` that the source link `i` leaves, and where it leads it; any record where there is no such link or record.
     pub fn lead(&self, found: &Found, leads: &[usize; 64], i: u32, q: u32) -> Lead
-        requires fits { Fits (raw self.now) }
-        requires holding { Holding (raw self.now) found.now leads.now }
+        requires { Holding (raw self.now) found.now leads.now }
         ensures led { (L : Loaded) → Holds L (raw self.now) found.now leads.now → Leads L (raw self.now) found.now i result }
         ensures asked { result.q ≡ q }
     {

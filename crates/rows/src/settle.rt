@@ -3,7 +3,7 @@ ghost use Rattle.std.specs.Prelude.{◌≡◌, ◌+◌, ◌<◌, ◌≤◌, leng
 ghost use Rattle.machine.specs.Loaded.{Loaded};
 ghost use Rattle.machine.specs.Merging.{merge};
 ghost use Rattle.machine.specs.Settling.{rehold, take_over, pull, drain, settled};
-ghost use Rattle.rows.specs.Layout.{Fits, Tidy, Becomes};
+ghost use Rattle.rows.specs.Layout.{Tidy, Becomes};
 ghost use Rattle.rows.specs.View.{raw, view};
 ghost use Rattle.rows.specs.View as place;
 ghost use Rattle.rows.specs.Writes.{changed, changed_rows, swapped, over};
@@ -41,8 +41,7 @@ impl Rows<'_> {
 
     // In the cells of `e`, the word `new` in the place of `old`.
     fn swap_row(&mut self, e: usize, old: u32, new: u32)
-        requires fits { Fits (raw self.old) }
-        requires e_lt_given { e < self.old.given }
+        requires { e < self.old.given }
         ensures { raw self.new ≡ over (raw self.old) (changed (swapped old new) self.old.words.now (place.at self.old e 3) self.old.links) }
     {
         let at = self.at(e, 0) + 3;
@@ -52,7 +51,6 @@ impl Rows<'_> {
 
     // The same in all cells.
     fn swap_rows(&mut self, old: u32, new: u32)
-        requires { Fits (raw self.old) }
         ensures { raw self.new ≡ over (raw self.old) (changed_rows (swapped old new) self.old.words.now self.old.base self.old.links self.old.given) }
     {
         let n = self.given;

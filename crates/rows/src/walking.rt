@@ -2,7 +2,6 @@
 ghost use Rattle.std.specs.Prelude.{◌≡◌, []};
 ghost use Rattle.words.specs.Words.{fields};
 ghost use Rattle.machine.specs.Walking.{walk, walk_in};
-ghost use Rattle.rows.specs.Layout.{Fits};
 ghost use Rattle.rows.specs.View.{raw, view, slot};
 ghost use Rattle.rows.specs.Walks.{links, ended_at, side_of, shown_side};
 
@@ -26,7 +25,6 @@ fn link(step: u32) -> u32
 impl Rows<'_> {
     // Where the path leads from `e`, if each of its cells is filled.
     pub(crate) fn walk(&self, path: &[u32], e: u32) -> Option<u32>
-        requires { Fits (raw self.now) }
         ensures { result ≡ ended_at (walk (view self.now).held e (links path.now)) }
     {
         match path {
@@ -40,7 +38,6 @@ impl Rows<'_> {
 
     // The slot `t` as a step of its own.
     fn step(&self, t: Slot) -> Side
-        requires { Fits (raw self.now) }
         ensures { shown_side result ≡ side_of (walk_in (view self.now).held (slot t) []) }
     {
         match self.held(t) {
@@ -51,7 +48,6 @@ impl Rows<'_> {
 
     // The side that walks the path from `e`: all but its last step, and then that one.
     pub(crate) fn side(&self, path: &[u32], e: u32) -> Side
-        requires { Fits (raw self.now) }
         ensures { shown_side result ≡ side_of (walk (view self.now).held e (links path.now)) }
     {
         match path {
@@ -65,7 +61,6 @@ impl Rows<'_> {
 
     // The side that goes through the slot `t` first, and then walks the path.
     pub(crate) fn side_in(&self, t: Slot, path: &[u32]) -> Side
-        requires { Fits (raw self.now) }
         ensures { shown_side result ≡ side_of (walk_in (view self.now).held (slot t) (links path.now)) }
     {
         match self.held(t) {

@@ -5,5 +5,5 @@ use Rattle.rows.proofs.Rows.at.Goals as goal
 pub returns : goal.returns
 returns c = let t = c.args.self.now in record {
   is = refl;
-  fits = place_fits t.base t.links t.capacity _ c.args.e c.args.j c.requires.rows_fit.room c.requires.e_lt_capacity c.requires.j_bound;
+  fits = place_fits t.base t.links t.capacity _ c.args.e c.args.j t.fits.room c.requires.e_lt_capacity c.requires.j_bound;
 }

@@ -7,7 +7,7 @@ pub overflow_add-last : goal.overflow_add-last
 overflow_add-last c = let h = wait_room (raw c.args.self.now) c.requires.tidy c.args.v c.args.u c.requires.v_lt_given c.requires.u_lt_v c.requires.v_lives in search rules
 
 pub at-slot-requires : goal.at-slot-requires
-at-slot-requires c = record { rows_fit = c.requires.tidy.fits; e_lt_capacity = wait_room (raw c.args.self.now) c.requires.tidy c.args.v c.args.u c.requires.v_lt_given c.requires.u_lt_v c.requires.v_lives; j_bound = omega arith }
+at-slot-requires c = record { e_lt_capacity = wait_room (raw c.args.self.now) c.requires.tidy c.args.v c.args.u c.requires.v_lt_given c.requires.u_lt_v c.requires.v_lives; j_bound = omega arith }
 
 pub returns : goal.returns
 returns c = becomes_dead (raw c.args.self.now) c.requires.tidy c.args.v c.args.u c.requires.v_lt_given c.requires.u_lt_v c.requires.v_lives _ _ c.at-at.ensures.is c.at-slot.ensures.is

@@ -8,7 +8,7 @@ pub returns-then-not-has : goal.returns-then-not-has
 returns-then-not-has c = held_out (raw c.args.self.now) (slot c.args.t) (sym c.if-not-has.ensures)
 
 pub place-requires : goal.place-requires
-place-requires c = record { rows_fit = c.requires; has = inside_true (raw c.args.self.now).shape c.args.self.now.given (slot c.args.t) (sym c.if-not-has.ensures) }
+place-requires c = inside_true (raw c.args.self.now).shape c.args.self.now.given (slot c.args.t) (sym c.if-not-has.ensures)
 
 pub returns-then-w-eq0 : goal.returns-then-w-eq0
 returns-then-w-eq0 c = held_none (raw c.args.self.now) (slot c.args.t) _ (sym c.if-not-has.ensures) c.place.ensures.is c.if-w-eq0.true

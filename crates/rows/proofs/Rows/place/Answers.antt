@@ -4,9 +4,9 @@ use Rattle.rows.proofs.Places.{landing_placed}
 use Rattle.rows.proofs.Rows.place.Goals as goal
 
 pub overflow_add-result : goal.overflow_add-result
-overflow_add-result c = let h = landing_placed (raw c.args.self.now) c.requires.rows_fit (slot c.args.t) _ _ (ap slot c.in-Landing.is) c.requires.has in search rules
+overflow_add-result c = let h = landing_placed (raw c.args.self.now) c.args.self.now.fits (slot c.args.t) _ _ (ap slot c.in-Landing.is) c.requires in search rules
 
 pub returns-in-Landing : goal.returns-in-Landing
 returns-in-Landing c =
-    let h = landing_placed (raw c.args.self.now) c.requires.rows_fit (slot c.args.t) _ _ (ap slot c.in-Landing.is) c.requires.has in
+    let h = landing_placed (raw c.args.self.now) c.args.self.now.fits (slot c.args.t) _ _ (ap slot c.in-Landing.is) c.requires in
     record { is = h.0; fits = h.1 }

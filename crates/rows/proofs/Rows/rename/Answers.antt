@@ -6,7 +6,7 @@ use Rattle.rows.proofs.Rows.rename.Goals as goal
 pub read-n-requires : goal.read-n-requires
 read-n-requires c =
     let h = c.requires.still.given (slot c.args.t) c.in-Some.w (sym c.held.ensures ∙ c.in-Some.is) in
-    record { fits = c.requires.still.fits; e_lt_capacity = omega (arith, c.requires.still.fits.few); j_bound = omega arith }
+    record { e_lt_capacity = omega (arith, c.requires.still.fits.few); j_bound = omega arith }
 
 pub overflow_add-self : goal.overflow_add-self
 overflow_add-self c =

@@ -6,7 +6,7 @@ use Rattle.rows.proofs.Rows.swap_row.Goals as goal
 
 pub swap-requires : goal.swap-requires
 swap-requires c = let t = c.args.self.now in
-    let h = place_fits t.base t.links t.capacity _ c.args.e (t.links + 2) c.requires.fits.room (omega arith) (omega arith) in
+    let h = place_fits t.base t.links t.capacity _ c.args.e (t.links + 2) t.fits.room (omega arith) (omega arith) in
     omega arith
 
 pub returns : goal.returns
