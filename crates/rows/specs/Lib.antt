@@ -1,7 +1,7 @@
 pub mod Layout
 pub mod Writes
-pub mod Calls
 pub mod View
+pub mod Calls
 pub mod Walks
 pub mod Sweeps
 pub mod Standing
