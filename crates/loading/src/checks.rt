@@ -1,6 +1,5 @@
 // What is tested of a source before it is taken.
 ghost use Rattle.std.specs.Prelude.{◌≡◌, ◌<◌, length};
-ghost use Rattle.registers.specs.Meaning.{Lawful};
 ghost use Rattle.registers.specs.Writing.{some_below, lowest, astray as astray_of, strays as strays_of};
 ghost use Rattle.machine.specs.Loading.{source_link, other_ends, other_shape, link_strays};
 ghost use Rattle.loading.specs.LoadedWords.{problem_in, Sourced, leaving};
@@ -55,8 +54,7 @@ fn some_other_ends<R: Register>(problem: &[u32], schema: Schema, source: &R) -> 
 // Whether the source has other kinds, links or ends than the schema.
 pub(crate) fn other_shape<R: Register>(problem: &[u32], schema: Schema, source: &R) -> bool
     requires { Sourced problem.now schema }
-    ensures answer { result ≡ other_shape (problem_in problem.now) (R.meaning source.now) }
-    ensures lawful { Lawful (R.meaning source.now) }
+    ensures { result ≡ other_shape (problem_in problem.now) (R.meaning source.now) }
 {
     source.kinds() != schema.kinds
         || source.links() as usize != schema.links

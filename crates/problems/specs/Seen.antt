@@ -1,8 +1,17 @@
 -- What the code knows of a schema: its kinds, how many links it has, and where they stand.
-use Rattle.std.specs.Prelude.{◌≡◌, ℕ, List, Ok, Err, Result}
+use Rattle.std.specs.Prelude.{◌≡◌, ℕ, ◌+◌, ◌/◌, ◌%◌, cond, List, Some, None, Option, Ok, Err, Result, nat_lt, slice_index}
 use Rattle.words.specs.declared.faults.SchemaFault.{SchemaFault}
+use Rattle.words.specs.Words.{fields}
 use Rattle.words.specs.Items.{sized, got}
+use Rattle.problems.specs.declared.Schema.{Schema}
 use Rattle.problems.specs.Problem.{Link, links, kind_maps}
+
+-- the ends that a word says, and those of a link of a schema
+abbrev pub ends_at : List ℕ → ℕ → ℕ × ℕ
+ends_at ws at = (fields (slice_index ws at) / 256, fields (slice_index ws at) % 256)
+
+abbrev pub ends_of : Schema → List ℕ → ℕ → Option (ℕ × ℕ)
+ends_of s ws l = cond (nat_lt l s.links) (Some (ends_at ws (s.place + l))) None
 
 -- the links of a schema
 abbrev pub links_got : ℕ → List ℕ → ℕ → List Link

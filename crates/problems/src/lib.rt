@@ -4,7 +4,7 @@
 ghost use Rattle.std.specs.Prelude.{◌≡◌, ◌+◌, ◌-◌, ◌/◌, ◌%◌, ◌<◌, ◌≤◌, length, take, IfOk, Ok, slice_index, slice_index_or};
 ghost use Rattle.words.specs.Items.{one_word, sized, behind, outlined, ended};
 ghost use Rattle.problems.specs.Problem.{no_link, schema as schema_of, link as link_of, links as links_of, step as step_of, path as path_of, rule as rule_of, rule_size, rules as rules_of, kind_mapped, kind_maps, link_mapped, link_maps, path_size, whole_schema, behind_schemas, read as read_of};
-ghost use Rattle.problems.specs.Seen.{Linked, links_got, reached, Mapped, kinds_got};
+ghost use Rattle.problems.specs.Seen.{ends_of, Linked, links_got, reached, Mapped, kinds_got};
 ghost use Rattle.problems.specs.Layout.{ReadsLayouts, ReadsOnce};
 ghost use Rattle.problems.specs.Accepts.{Laid};
 ghost use Rattle.problems.specs.Tokens.{shown_token, token_in, rule_token, map_token};
@@ -71,6 +71,19 @@ pub struct Schema {
     pub kinds: u32,
     pub links: usize,
     pub place: usize,
+}
+
+impl Schema {
+    // The ends of a link, as the word at its place says; none of a link that there is not.
+    pub fn ends(self, words: &[u32], link: u32) -> Option<(u32, u32)>
+        ensures { result ≡ ends_of self words.now link }
+    {
+        if link as usize >= self.links {
+            return None;
+        }
+        let fields = fields_at(words, self.place.saturating_add(link as usize));
+        Some((fields / 256, fields % 256))
+    }
 }
 
 // A step leaves the kind reached; tells its link.

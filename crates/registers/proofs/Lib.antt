@@ -1,6 +1,7 @@
 pub mod Answering
 pub mod Wheels
 pub mod WrittenLists
+pub mod Asked
 pub mod WrittenSplices
 pub mod WrittenParts
 pub mod WrittenFiles

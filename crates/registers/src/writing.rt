@@ -8,7 +8,7 @@ use crate::writing::checks::{is_large, lowest_broken, size};
 use crate::writing::parts::put_file;
 use words::faults::{Fault, Refusal};
 
-mod checks;
+pub mod checks;
 pub mod parts;
 
 // Why a register is not written.

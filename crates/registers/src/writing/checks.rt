@@ -1,6 +1,5 @@
 // What is tested before a register is written.
 ghost use Rattle.std.specs.Prelude.{◌≡◌, ◌≤◌, length};
-ghost use Rattle.registers.specs.Meaning.{Lawful};
 ghost use Rattle.registers.specs.Writing.{crowded, large, astray as astray_of, strays as strays_of, broken, lowest};
 ghost use Rattle.registers.specs.Parts.{file_words, row_words, links_words};
 
@@ -10,18 +9,12 @@ use crate::register::Register;
 fn is_crowded<R: Register>(register: &R) -> bool
     ensures { result ≡ crowded (R.meaning register.now) }
 {
-    for kind in 0..register.kinds() {
-        if register.count(kind) > 65535 {
-            return true;
-        }
-    }
-    false
+    (0..register.kinds()).any(|kind| register.count(kind) > 65535)
 }
 
 // Whether a register passes the limits of a register file.
 pub(crate) fn is_large<R: Register>(register: &R) -> bool
-    ensures answer { result ≡ large (R.meaning register.now) }
-    ensures lawful { Lawful (R.meaning register.now) }
+    ensures { result ≡ large (R.meaning register.now) }
 {
     register.kinds() > 32 || register.links() > 64 || is_crowded(register)
 }
@@ -30,23 +23,15 @@ pub(crate) fn is_large<R: Register>(register: &R) -> bool
 fn astray(size: u32, answer: Option<u32>) -> bool
     ensures { result ≡ astray_of size answer }
 {
-    match answer {
-        Some(led) => led >= size,
-        None => true,
-    }
+    answer.is_none_or(|led| led >= size)
 }
 
 // Whether a record of one kind does not lead to one of another.
-fn strays<R: Register>(register: &R, link: u32, from: u32, to: u32) -> bool
+pub fn strays<R: Register>(register: &R, link: u32, from: u32, to: u32) -> bool
     ensures { result ≡ strays_of (R.meaning register.now) link from to }
 {
     let size = register.count(to);
-    for r in 0..register.count(from) {
-        if astray(size, register.follow(link, r)) {
-            return true;
-        }
-    }
-    false
+    (0..register.count(from)).any(|r| astray(size, register.follow(link, r)))
 }
 
 // Whether a link cannot be written.
@@ -64,13 +49,7 @@ fn is_broken<R: Register>(register: &R, link: u32) -> bool
 pub(crate) fn lowest_broken<R: Register>(register: &R) -> Option<u32>
     ensures { result ≡ lowest (broken (R.meaning register.now)) (R.meaning register.now).links }
 {
-    let links = register.links();
-    for link in 0..links {
-        if is_broken(register, link) {
-            return Some(link);
-        }
-    }
-    None
+    (0..register.links()).find(|link| is_broken(register, *link))
 }
 
 // How many words a link takes.
