@@ -1,4 +1,5 @@
 use Rattle.std.proofs.Common.{ap, arith}
+use Rattle.rows.specs.Sources.{kinds_of}
 use Rattle.rows.specs.Layout.{Shape, count}
 use Rattle.rows.specs.Sweeps.{renames, in_kind, in_kinds}
 use Rattle.rows.specs.View.{raw, view}
@@ -30,4 +31,4 @@ loop-k-preserved c =
 
 pub returns : goal.returns
 returns c = let i = c.loop-k.invariant in
-    goes_to (raw c.args.self.now) _ (λ n. renames (in_kinds (raw c.args.self.now).shape n)) c.loop-k.k c.args.self.now.source.kinds (omega arith) i.0
+    goes_to (raw c.args.self.now) _ (λ n. renames (in_kinds (raw c.args.self.now).shape n)) c.loop-k.k (kinds_of c.args.self.now.source) (omega arith) i.0
