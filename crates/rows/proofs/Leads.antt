@@ -1,46 +1,72 @@
 -- Where the source's links lead, by the words of a table.
-use Rattle.std.proofs.Common.{◌≡◌, ℕ, ◌+◌, ◌<◌, Bool, true, false, ◌&&◌, ltb, List, length, get_or, sym, refl, ap, ◌∙◌, subst, arith}
-use Rattle.std.proofs.lemmas.Bool.{lt-ltb}
+use Rattle.std.proofs.Common.{◌≡◌, ℕ, ◌+◌, ◌<◌, Bool, true, false, ◌&&◌, ltb, List, length, get_or, Some, None, sym, refl, ap, ◌∙◌, arith}
+use Rattle.std.proofs.lemmas.Bool.{lt-ltb, and_parts, ltb-true}
+use Rattle.std.proofs.lemmas.Bool.Decides.{nat_tests}
 use Rattle.problems.specs.declared.Found.{Found}
+use Rattle.problems.specs.Seen.{ends_of}
 use Rattle.machine.specs.Loaded.{Loaded}
-use Rattle.machine.specs.State.{landing}
+use Rattle.machine.specs.State.{State, landing}
+use Rattle.machine.specs.Checking.{link_effect}
+use Rattle.rows.specs.declared.paths.Lead.{Lead}
 use Rattle.rows.specs.Layout.{Raw, inside}
-use Rattle.rows.specs.Standing.{Leads, Holds}
-use Rattle.rows.proofs.Outline.{source_links_are, source_few}
-use Rattle.rows.proofs.Checks.{same_test, counted}
+use Rattle.rows.specs.Standing.{Holds, led_effect, lead_of}
+use Rattle.rows.proofs.Outline.{told_some, told_none, source_links_are, source_few, ends_none, ends_some}
 
--- where a source link leads a record
-module _ (L : Loaded) (r : Raw) (f : Found) (leads : List ℕ) (x : Holds L r f leads) (i q : ℕ) (e : ℕ × ℕ) (ends : i < L.source_links → (L.source_from i ≡ e.0) × (L.source_to i ≡ e.1)) where
-  leading : (n : ℕ) → (i < L.source_links → q < L.count (L.source_from i) → L.lead i q ≡ n) → Leads L r f i (record { from = e.0; q = q; to = e.1; led = n })
-  leading n d = record {
-    stands = x.stands;
-    carries = x.carries;
-    accepted = x.accepted;
-    from = λ h. (ends h).0;
-    to = λ h. (ends h).1;
-    led = λ h k. d h (subst (λ (j : ℕ). q < L.count j) (sym (ends h).0) k);
-  }
+-- where there is such a link and record, and where not
+module _ (L : Loaded) (i q : ℕ) where
+  abbrev pub led_there : Bool
+  led_there = ltb i L.source_links && ltb q (L.count (L.source_from i))
 
-  pub lead_is : Leads L r f i (record { from = e.0; q = q; to = e.1; led = get_or r.ws (get_or leads i 0 + q) 0 })
-  lead_is = leading _ (λ h k. (x.led i q h k).1)
+  abbrev led : Lead
+  led = record { from = L.source_from i; q = q; to = L.source_to i; led = L.lead i q }
 
-  module _ (b : Bool) (t : b ≡ (ltb i f.source.links && inside r.shape r.given (landing e.0 q))) where
-    tested : b ≡ (ltb i L.source_links && ltb q (L.count (L.source_from i)))
-    tested = t ∙ same_test L r f i (record { from = e.0; q = q; to = e.1; led = L.lead i q }) (leading (L.lead i q) (λ h k. refl))
+  pub there_is : led_there ≡ true → (i < L.source_links) × (q < L.count (L.source_from i))
+  there_is h = let b = and_parts (ltb i L.source_links) (ltb q (L.count (L.source_from i))) h in (ltb-true i L.source_links b.0, ltb-true q (L.count (L.source_from i)) b.1)
+
+  pub there : i < L.source_links → q < L.count (L.source_from i) → led_there ≡ true
+  there h k = grind (arith, nat_tests)
+
+  pub lead_some : (x : Lead) → Some x ≡ lead_of L i q → (i < L.source_links) × (q < L.count (L.source_from i)) × (led_there ≡ true) × (x ≡ led)
+  lead_some x p = let t = told_some led_there led x p in let h = there_is t.0 in (h.0, h.1, t.0, t.1)
+
+  pub lead_lost : None ≡ lead_of L i q → led_there ≡ false
+  lead_lost p = told_none led_there led p
+
+  -- what its check finds is what the machine's finds
+  pub led_same : (s : State) (x : Lead) → Some x ≡ lead_of L i q → (path : List ℕ) → path ≡ L.link_map i → led_effect s x path ≡ link_effect L s i q
+  led_same s x p path e = let h = (lead_some x p).3 in λ j. led_effect s (h j) (e j)
+
+-- by the words
+module _ (L : Loaded) (r : Raw) (f : Found) (leads : List ℕ) (x : Holds L r f leads) (i q : ℕ) where
+  pub lead_no_link : None ≡ ends_of f.source r.ws i → None ≡ lead_of L i q
+  lead_no_link n = let b = (ends_none L r f x.stands i n) in rw b refl
+
+  module _ (e : ℕ × ℕ) (p : Some e ≡ ends_of f.source r.ws i) (b : Bool) (t : b ≡ inside r.shape r.given (landing e.0 q)) where
+    ends : (i < L.source_links) × (e ≡ (L.source_from i, L.source_to i))
+    ends = ends_some L r f x.stands i e p
+
+    tested : b ≡ led_there L i q
+    tested =
+        let k : L.source_from i < r.shape.kinds = omega (arith, x.accepted.from_in i ends.0, x.carries.kinds) in
+        let a : ltb (L.source_from i) r.shape.kinds ≡ true = lt-ltb (L.source_from i) r.shape.kinds k in
+        let d : ltb i L.source_links ≡ true = lt-ltb i L.source_links ends.0 in
+        t ∙ ap (λ (z : ℕ × ℕ). inside r.shape r.given (landing z.0 q)) ends.1 ∙ rw (a, d, x.carries.counts (L.source_from i) k) refl
+
+    pub lead_none : b ≡ false → None ≡ lead_of L i q
+    lead_none off = let z : led_there L i q ≡ false = sym tested ∙ off in rw z refl
 
     module _ (yes : b ≡ true) where
-      there_is : (i < L.source_links) × (q < L.count (L.source_from i))
-      there_is = counted L r f i (record { from = e.0; q = q; to = e.1; led = L.lead i q }) (leading (L.lead i q) (λ h k. refl)) (sym tested ∙ yes)
+      is : (i < L.source_links) × (q < L.count (L.source_from i))
+      is = there_is L i q (sym tested ∙ yes)
 
       pub lead_link : i < 64
-      lead_link = omega (arith, there_is.0, source_links_are L r f x.stands, source_few L r f x.stands)
+      lead_link = omega (arith, ends.0, source_links_are L r f x.stands, source_few L r f x.stands)
 
       pub lead_in : get_or leads i 0 + q < length r.ws
-      lead_in = (x.led i q there_is.0 there_is.1).0
+      lead_in = (x.led i q is.0 is.1).0
 
-    pub lead_none : b ≡ false → Leads L r f i (record { from = e.0; q = q; to = e.1; led = 0 })
-    lead_none off = leading 0 (λ h k. absurd (
-        let u = lt-ltb i L.source_links h in
-        let v = lt-ltb q (L.count (L.source_from i)) k in
-        let z : ◌≡◌ {A = ℕ} 0 1 = cc (tested, off, v, ap (λ c. c && ltb q (L.count (L.source_from i))) u) in
-        omega arith))
+      pub lead_is : Some (record { from = e.0; q = q; to = e.1; led = get_or r.ws (get_or leads i 0 + q) 0 }) ≡ lead_of L i q
+      lead_is =
+          let z : led_there L i q ≡ true = sym tested ∙ yes in
+          let w = (x.led i q is.0 is.1).1 in
+          rw z (λ j. Some (record { from = (ends.1 j).0; q = q; to = (ends.1 j).1; led = sym w j }))

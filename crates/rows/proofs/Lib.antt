@@ -10,8 +10,8 @@ pub mod Walks
 pub mod Named
 pub mod Standing
 pub mod Outline
-pub mod Checks
 pub mod Leads
+pub mod Checks
 pub mod SweepStates
 pub mod SweepSteps
 pub mod SweepMoves

@@ -1,5 +1,8 @@
 -- What the outline of a problem says of the words of its links and kind maps.
-use Rattle.std.proofs.Common.{◌≡◌, ℕ, ◌+◌, ◌/◌, ◌%◌, ◌<◌, ◌≤◌, List, length, get_or, take, Ok, sym, refl, ap, ◌∙◌, arith, length-take}
+use Rattle.std.proofs.Common.{◌≡◌, ℕ, suc, ◌+◌, ◌/◌, ◌%◌, ◌<◌, ◌≤◌, Bool, true, false, cond, ltb, List, length, get_or, take, Some, None, Option, Ok, sym, refl, ap, ◌∙◌, inl, inr, arith, length-take}
+use Rattle.std.specs.Option.{unwrap_or}
+use Rattle.std.proofs.lemmas.Bool.{lt-ltb, ltb-true}
+use Rattle.std.proofs.lemmas.Bool.Decides.{leb_tells}
 use Rattle.std.proofs.lemmas.List.{get_or-take}
 use Rattle.words.specs.Items.{sized, got}
 use Rattle.words.specs.Words.{then, fields}
@@ -8,7 +11,7 @@ use Rattle.words.proofs.Laid.{ok_same}
 use Rattle.problems.specs.declared.Found.{Found}
 use Rattle.problems.specs.declared.Schema.{Schema}
 use Rattle.problems.specs.Problem.{Link, Problem, schema, links, whole_schema, kind_maps, no_link}
-use Rattle.problems.specs.Seen.{Mapped}
+use Rattle.problems.specs.Seen.{Mapped, ends_of}
 use Rattle.problems.specs.Shown.{source_of, target_of}
 use Rattle.problems.proofs.Layouts.{read_layout}
 use Rattle.problems.proofs.Paths.{link_inside, link_from}
@@ -16,7 +19,7 @@ use Rattle.problems.proofs.Mapping.{map_inside, map_is}
 use Rattle.problems.proofs.Problems.{ProblemRead, problem_told}
 use Rattle.machine.specs.Loaded.{Loaded}
 use Rattle.rows.specs.Layout.{Raw}
-use Rattle.rows.specs.Standing.{Stands, LinkedIn}
+use Rattle.rows.specs.Standing.{Stands}
 
 -- the links of a schema that was read
 pub schema_read : (side : ℕ) (ws : List ℕ) (at k : ℕ) (ls : List Link) → whole_schema side ws at ≡ Ok (k, ls) → links k ws (at + 1) ≡ Ok ls
@@ -36,6 +39,22 @@ module _ (kinds : ℕ) (ws : List ℕ) (at : ℕ) (ls : List Link) (e : links ki
       let x = link_from kinds ws at (length ls) l (fields (get_or ws (at + l) 0)) (ap sized e) h refl in
       let g = ap got e in
       (x.0 ∙ ap (λ ls. (get_or ls l no_link).from) g, x.1 ∙ ap (λ ls. (get_or ls l no_link).to) g)
+
+-- what a test chose
+module _ {X : Type 0} (b : Bool) (y : X) where
+  pub told_some : (x : X) → Some x ≡ cond b (Some y) None → (b ≡ true) × (x ≡ y)
+  told_some x p = go b p
+    where
+      go : (c : Bool) → Some x ≡ cond c (Some y) None → (c ≡ true) × (x ≡ y)
+      go true e = (refl, cc)
+      go false e = absurd (let z : ◌≡◌ {A = ℕ} 0 1 = cc in omega arith)
+
+  pub told_none : None ≡ cond b (Some y) None → b ≡ false
+  told_none p = go b p
+    where
+      go : (c : Bool) → None ≡ cond c (Some y) None → c ≡ false
+      go true e = absurd (let z : ◌≡◌ {A = ℕ} 0 1 = cc in omega arith)
+      go false e = refl
 
 module _ (L : Loaded) (r : Raw) (f : Found) (st : Stands L r f) where
   abbrev ws : List ℕ
@@ -61,9 +80,6 @@ module _ (L : Loaded) (r : Raw) (f : Found) (st : Stands L r f) where
 
   -- the links of one of the two schemas
   module _ (s : Schema) (ls : List Link) (e : links s.kinds ws s.place ≡ Ok ls) (n : s.links ≡ length ls) where
-    linked : LinkedIn r.ws s
-    linked l h = (known (s.place + l) (link_in s.kinds ws s.place ls e l (omega arith))).0
-
     ends : (l : ℕ) → l < s.links → ((get_or ls l no_link).from ≡ fields (get_or r.ws (s.place + l) 0) / 256) × ((get_or ls l no_link).to ≡ fields (get_or r.ws (s.place + l) 0) % 256)
     ends l h =
         let k : l < length ls = omega arith in
@@ -77,12 +93,6 @@ module _ (L : Loaded) (r : Raw) (f : Found) (st : Stands L r f) where
   target_read : links f.target.kinds ws f.target.place ≡ Ok p.target_links
   target_read = ap (λ (s : Schema). links s.kinds ws s.place) target_told ∙ schema_read 1 ws (1 + length p.source_links) p.target_kinds p.target_links parts.targeted
 
-  pub source_linked : LinkedIn r.ws f.source
-  source_linked = linked f.source p.source_links source_read (ap (λ (s : Schema). s.links) source_told)
-
-  pub target_linked : LinkedIn r.ws f.target
-  target_linked = linked f.target p.target_links target_read (ap (λ (s : Schema). s.links) target_told)
-
   pub source_links_are : f.source.links ≡ L.source_links
   source_links_are = ap (λ (s : Schema). s.links) source_told ∙ sym (ap (λ (M : Loaded). M.source_links) st.takes)
 
@@ -95,20 +105,36 @@ module _ (L : Loaded) (r : Raw) (f : Found) (st : Stands L r f) where
   pub source_kinds_are : f.source.kinds ≡ L.source_kinds
   source_kinds_are = ap (λ (s : Schema). s.kinds) source_told ∙ sym (ap (λ (M : Loaded). M.source_kinds) st.takes)
 
-  module _ (l : ℕ) (x : ℕ × ℕ) where
-    pub source_ends : (l < f.source.links → x.0 ≡ fields (get_or r.ws (f.source.place + l) 0) / 256) → (l < f.source.links → x.1 ≡ fields (get_or r.ws (f.source.place + l) 0) % 256)
-        → l < L.source_links → (L.source_from l ≡ x.0) × (L.source_to l ≡ x.1)
-    source_ends a b h =
-        let k : l < f.source.links = omega (arith, source_links_are) in
-        let e = ends f.source p.source_links source_read (ap (λ (s : Schema). s.links) source_told) l k in
-        (ap (λ (M : Loaded). M.source_from l) st.takes ∙ e.0 ∙ sym (a k), ap (λ (M : Loaded). M.source_to l) st.takes ∙ e.1 ∙ sym (b k))
+  -- the ends of a link, as load took them
+  module _ (l : ℕ) where
+    source_ends_are : ends_of f.source r.ws l ≡ cond (ltb l L.source_links) (Some (L.source_from l, L.source_to l)) None
+    source_ends_are = rw (← source_links_are) (elim (leb_tells (suc l) f.source.links) [
+      | inl t ↦ (
+          let e = ends f.source p.source_links source_read (ap (λ (s : Schema). s.links) source_told) l t.1 in
+          rw t.0 (λ j. Some (sym (ap (λ (M : Loaded). M.source_from l) st.takes ∙ e.0) j, sym (ap (λ (M : Loaded). M.source_to l) st.takes ∙ e.1) j)))
+      | inr t ↦ rw t.0 refl
+    ])
 
-    pub target_ends : (l < f.target.links → x.0 ≡ fields (get_or r.ws (f.target.place + l) 0) / 256) → (l < f.target.links → x.1 ≡ fields (get_or r.ws (f.target.place + l) 0) % 256)
-        → l < L.links → (L.from l ≡ x.0) × (L.to l ≡ x.1)
-    target_ends a b h =
-        let k : l < f.target.links = omega (arith, target_links_are) in
-        let e = ends f.target p.target_links target_read (ap (λ (s : Schema). s.links) target_told) l k in
-        (ap (λ (M : Loaded). M.from l) st.takes ∙ e.0 ∙ sym (a k), ap (λ (M : Loaded). M.to l) st.takes ∙ e.1 ∙ sym (b k))
+    target_ends_are : ends_of f.target r.ws l ≡ cond (ltb l L.links) (Some (L.from l, L.to l)) None
+    target_ends_are = rw (← target_links_are) (elim (leb_tells (suc l) f.target.links) [
+      | inl t ↦ (
+          let e = ends f.target p.target_links target_read (ap (λ (s : Schema). s.links) target_told) l t.1 in
+          rw t.0 (λ j. Some (sym (ap (λ (M : Loaded). M.from l) st.takes ∙ e.0) j, sym (ap (λ (M : Loaded). M.to l) st.takes ∙ e.1) j)))
+      | inr t ↦ rw t.0 refl
+    ])
+
+    pub ends_none : None ≡ ends_of f.source r.ws l → ltb l L.source_links ≡ false
+    ends_none n = told_none (ltb l L.source_links) _ (n ∙ source_ends_are)
+
+    pub ends_some : (e : ℕ × ℕ) → Some e ≡ ends_of f.source r.ws l → (l < L.source_links) × (e ≡ (L.source_from l, L.source_to l))
+    ends_some e n = let t = told_some (ltb l L.source_links) _ e (n ∙ source_ends_are) in (ltb-true l L.source_links t.0, t.1)
+
+    module _ (x : ℕ × ℕ) (o : Option (ℕ × ℕ)) (is : x ≡ unwrap_or o (0, 0)) where
+      pub source_ends : o ≡ ends_of f.source r.ws l → l < L.source_links → (L.source_from l ≡ x.0) × (L.source_to l ≡ x.1)
+      source_ends p h = let e = is ∙ ap (λ (z : Option (ℕ × ℕ)). unwrap_or z (0, 0)) (p ∙ source_ends_are) ∙ ap (λ b. unwrap_or (cond b (Some (L.source_from l, L.source_to l)) None) (0, 0)) (lt-ltb l L.source_links h) in (sym (ap (λ y. y.0) e), sym (ap (λ y. y.1) e))
+
+      pub target_ends : o ≡ ends_of f.target r.ws l → l < L.links → (L.from l ≡ x.0) × (L.to l ≡ x.1)
+      target_ends p h = let e = is ∙ ap (λ (z : Option (ℕ × ℕ)). unwrap_or z (0, 0)) (p ∙ target_ends_are) ∙ ap (λ b. unwrap_or (cond b (Some (L.from l, L.to l)) None) (0, 0)) (lt-ltb l L.links h) in (sym (ap (λ y. y.0) e), sym (ap (λ y. y.1) e))
 
   -- the word of a kind map
   module _ (k : ℕ) (h : k < f.source.kinds) where

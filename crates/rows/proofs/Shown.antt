@@ -1,11 +1,12 @@
 -- What a write does to the state that the words show.
-use Rattle.std.proofs.Common.{◌≡◌, ℕ, zero, suc, ◌+◌, ◌-◌, ◌<◌, ◌≤◌, true, false, cond, ◌&&◌, eqb, ltb, leb, ◌≢◌, List, map, length, get_or, set, Some, None, sym, refl, ap, ◌∙◌, inl, inr, add-one, arith}
+use Rattle.std.proofs.Common.{◌≡◌, ℕ, zero, suc, ◌+◌, ◌-◌, ◌<◌, ◌≤◌, true, false, cond, ◌&&◌, eqb, ltb, leb, List, map, length, get_or, set, Some, None, Option, sym, refl, ap, ◌∙◌, inl, inr, add-one, arith}
 use mathlib.Core.Path.{fun_ext}
 use Rattle.std.specs.List.{range_with_len}
+use Rattle.std.specs.Option.{SomeIff}
 use Rattle.std.proofs.lemmas.List.{length-set, get_or-set_same, get_or-set_other}
 use Rattle.std.proofs.lemmas.List.FromFn.{map-range_with_len_more, length-map-range_with_len}
 use Rattle.std.proofs.lemmas.Bool.{cases_Bool}
-use Rattle.std.proofs.lemmas.Bool.Decides.{nat_tests, eqb_tells, leb_tells}
+use Rattle.std.proofs.lemmas.Bool.Decides.{nat_tests, leb_tells}
 use Rattle.machine.specs.State.{Slot, cell, landing, State, put, hold}
 use Rattle.machine.specs.Merging.{die}
 use Rattle.machine.specs.Settling.{tail, pop}
@@ -23,6 +24,11 @@ same_state s t n k f x w = λ i. record { given = n i; kind = λ e. k e i; forwa
 abbrev pub with : Raw → List ℕ → ℕ → ℕ → Raw
 with r ws given waits = record { ws = ws; shape = r.shape; given = given; front = r.front; waits = waits }
 
+-- what a slot's word says, by a subtraction
+decoded : (w : ℕ) (o : Option ℕ) → SomeIff o (1 ≤ w) (w - 1) → o ≡ decode w
+decoded w None e = let z : eqb w 0 ≡ true = grind (arith, nat_tests) in rw z refl
+decoded w (Some x) e = let z : eqb w 0 ≡ false = (let h = e.0 in grind (arith, nat_tests)) in rw z (ap Some e.1)
+
 -- what a slot holds, by its word
 module _ (r : Raw) (t : Slot) where
   pub held_out : inside r.shape r.given t ≡ false → None ≡ (shown r).held t
@@ -33,12 +39,8 @@ module _ (r : Raw) (t : Slot) where
   unfolding held_of
   held_in h = rw h refl
 
-  module _ (at : ℕ) (h : inside r.shape r.given t ≡ true) (p : at ≡ spot r.shape t) where
-    pub held_none : get_or r.ws at 0 ≡ 0 → None ≡ (shown r).held t
-    held_none z = sym (held_in h ∙ (rw (← p) (rw z refl)))
-
-    pub held_some : get_or r.ws at 0 ≢ 0 → Some (get_or r.ws at 0 - 1) ≡ (shown r).held t
-    held_some n = sym (held_in h ∙ (rw (← p) (elim (eqb_tells (get_or r.ws at 0) 0) [ inl a ↦ absurd (n a.1) | inr a ↦ rw a.0 refl ])))
+  pub held_told : (at : ℕ) → inside r.shape r.given t ≡ true → at ≡ spot r.shape t → (o : Option ℕ) → SomeIff o (1 ≤ get_or r.ws at 0) (get_or r.ws at 0 - 1) → o ≡ (shown r).held t
+  held_told at h p o e = decoded (get_or r.ws at 0) o e ∙ ap (λ (i : ℕ). decode (get_or r.ws i 0)) p ∙ sym (held_in h)
 
 pub decode_more : (v : ℕ) → decode (v + 1) ≡ Some v
 decode_more v = let h : v + 1 - 1 ≡ v = omega arith in grind (arith, nat_tests)

@@ -1,8 +1,8 @@
 pub mod Layout
 pub mod Sources
 pub mod Writes
-pub mod Calls
 pub mod View
+pub mod Calls
 pub mod Walks
 pub mod Sweeps
 pub mod Standing

@@ -1,19 +1,17 @@
 -- The problem in a table's own words.
-use Rattle.std.specs.Prelude.{◌≡◌, ℕ, ◌+◌, ◌<◌, Bool, cond, ◌&&◌, List, [], length, take, Some, None, Ok, Err, Option, Result, ◌==◌, nat_lt, slice_index}
+use Rattle.std.specs.Prelude.{◌≡◌, ℕ, ◌+◌, ◌<◌, cond, ◌&&◌, List, [], length, take, Some, None, Ok, Err, Option, Result, nat_lt, slice_index}
 use Rattle.std.specs.Borrow.{Bor}
 use Rattle.words.specs.declared.faults.Refusal.{Refusal}
-use Rattle.words.specs.declared.faults.Refusal.TheVariants as refusal
 use Rattle.words.specs.Tokens.{Shown, schema, link, rule, step, kind_map, link_map, end, register, count, register_link, one_record, landings, fault}
 use Rattle.problems.specs.declared.Found.{Found}
-use Rattle.problems.specs.declared.Schema.{Schema}
 use Rattle.problems.specs.Problem.{Problem, read}
 use Rattle.problems.specs.Shown as outline
 use Rattle.registers.specs.Meaning.{Meaning}
 use Rattle.machine.specs.Loaded.{Loaded}
 use Rattle.machine.specs.Loading.{taken}
 use Rattle.machine.specs.Readings.{Accepted}
-use Rattle.machine.specs.State.{State, landing, waits, lives}
-use Rattle.machine.specs.Walking.{walk, walk_in}
+use Rattle.machine.specs.State.{State, landing}
+use Rattle.machine.specs.Walking.{walk_in}
 use Rattle.machine.specs.Checking as check
 use Rattle.rows.specs.declared.paths.Lead.{Lead}
 use Rattle.rows.specs.declared.checking.Effect.{Effect}
@@ -76,37 +74,14 @@ abbrev pub shown_found : Result Effect Refusal → Result check.Effect Refusal
 shown_found (Ok x) = Ok (shown_effect x)
 shown_found (Err f) = Err f
 
--- what the check of a rule finds at e, or why it is refused: some wait, there is no such rule, or e does not live and have its first kind
-abbrev pub with_rule : State → ℕ → Option Parts → Result check.Effect Refusal
-with_rule s e None = Err refusal.NotLiving
-with_rule s e (Some x) =
-    cond (lives s e && s.kind e == x.0) (Ok (check.sides (walk s.held e x.1) (walk s.held e x.2))) (Err refusal.NotLiving)
-
-abbrev pub rule_found : State → ℕ → Option Parts → Result check.Effect Refusal
-rule_found s e o = cond (waits s.waiting) (Err refusal.Waiting) (with_rule s e o)
-
--- the same of a source link that leads as x says
-abbrev pub checked : State → Bool → check.Effect → Result check.Effect Refusal
-checked s there y = cond (waits s.waiting) (Err refusal.Waiting) (cond there (Ok y) (Err refusal.NotLiving))
-
+-- what the check of a source link finds at a record that it leads as x says, along the link's path
 abbrev pub led_effect : State → Lead → List ℕ → check.Effect
 led_effect s x path = check.sides (walk_in s.held (landing x.to x.led) []) (walk_in s.held (landing x.from x.q) path)
 
--- what load took has the link i lead as x says
-pub record Leads (L : Loaded) (r : Raw) (f : Found) (i : ℕ) (x : Lead) : Type 0 where
-  pub stands : Stands L r f
-  pub carries : Carries L r.shape
-  pub accepted : Accepted L
-  pub from : i < L.source_links → L.source_from i ≡ x.from
-  pub to : i < L.source_links → L.source_to i ≡ x.to
-  pub led : i < L.source_links → x.q < L.count x.from → L.lead i x.q ≡ x.led
-
-abbrev pub Leading : Raw → Found → ℕ → Lead → Type 0
-Leading r f i x = (L : Loaded) × Leads L r f i x
-
--- the words of a schema's links stand in the words
-abbrev pub LinkedIn : List ℕ → Schema → Type 0
-LinkedIn ws s = (l : ℕ) → l < s.links → s.place + l < length ws
+-- where the source link i leads the record q, if there is such a link and record
+abbrev pub lead_of : Loaded → ℕ → ℕ → Option Lead
+lead_of L i q =
+    cond (nat_lt i L.source_links && nat_lt q (L.count (L.source_from i))) (Some (record { from = L.source_from i; q = q; to = L.source_to i; led = L.lead i q })) None
 
 -- the words hold the problem and the source that L was taken from; the leads of source link i begin at the place that `leads` has for it
 pub record Holds (L : Loaded) (r : Raw) (f : Found) (leads : List ℕ) : Type 0 where

@@ -1,62 +1,50 @@
 // The calls that give entries, with their refusals.
-ghost use Rattle.std.specs.Prelude.{◌≡◌, ◌<◌, ◌&&◌, None, ◌==◌, nat_lt};
+ghost use Rattle.std.specs.Prelude.{◌≡◌, ◌<◌, ◌&&◌, ◌==◌, nat_lt};
+ghost use Rattle.std.specs.List.{range_with_len, count_by};
 ghost use Rattle.machine.specs.Loaded.{Loaded};
-ghost use Rattle.machine.specs.State.{cell, landing, lives};
+ghost use Rattle.machine.specs.State.{lives};
 ghost use Rattle.machine.specs.Sweeping.{rank};
 ghost use Rattle.machine.specs.Calls.{land, define, apply, land_fault, define_fault};
 ghost use Rattle.machine.specs.Tables.{answered};
 ghost use Rattle.rows.specs.Layout.{Tidy, Becomes, Carries};
 ghost use Rattle.rows.specs.Sources.{kinds_of};
-ghost use Rattle.rows.specs.View.{raw, view, slot, Has};
-ghost use Rattle.rows.specs.Calls.{give_fault};
+ghost use Rattle.rows.specs.View.{raw, view};
+ghost use Rattle.rows.specs.Calls.{free};
 
 use crate::{Rows, Slot};
 use words::faults::Refusal;
 
 impl Rows<'_> {
+    // The living, counted among all entries.
+    fn count_living(&self) -> usize
+        ensures { result ≡ count_by (λ e. lives (view self.now) e) (range_with_len 0 self.now.given) }
+    {
+        let n = self.given as u32;
+        (0..n).filter(|e| self.lives(*e)).count()
+    }
+
     // How many entries live.
     pub fn living(&self) -> u32
         ensures { result ≡ rank (view self.now).forward self.now.given }
     {
-        let n = self.given as u32;
-        let mut k = 0;
-        for e in 0..n {
-            if self.lives(e) {
-                k += 1;
-            }
-        }
-        k
+        self.count_living() as u32
     }
 
-    // Why no new entry can fill the slot `t`, if none can; `there` says whether there is such a slot.
-    fn give_fault(&self, there: bool, t: Slot) -> Option<Refusal>
-        ensures { result ≡ give_fault (view self.now) there (slot t) self.now.capacity }
+    // The slot `t`, if a new entry can fill it; none where there is no such slot.
+    fn free(&self, t: Option<Slot>) -> Result<Slot, Refusal>
+        ensures { result ≡ free (view self.now) t self.now.capacity }
     {
         if self.waits > 0 {
-            return Some(Refusal::Waiting);
+            return Err(Refusal::Waiting);
         }
-        if !there {
-            return Some(Refusal::NotLiving);
+        let t = t.ok_or(Refusal::NotLiving)?;
+        if self.held(t).is_some() {
+            return Err(Refusal::Filled);
         }
-        match self.held(t) {
-            Some(_) => Some(Refusal::Filled),
-            None => {
-                if self.given < self.capacity {
-                    None
-                } else {
-                    Some(Refusal::Full)
-                }
-            }
+        if self.given >= self.capacity {
+            return Err(Refusal::Full);
         }
-    }
-
-    // Why `land` is refused, if it is.
-    pub(crate) fn land_fault(&self, k: u32, q: u32) -> Option<Refusal>
-        ensures is { (L : Loaded) → Carries L (raw self.now).shape → result ≡ land_fault L (view self.now) k q }
-        ensures room { result ≡ None → Has self.now (Slot.Landing k q) × (self.now.given < self.now.capacity) }
-    {
-        let there = self.has(Slot::Landing(k, q));
-        self.give_fault(there, Slot::Landing(k, q))
+        Ok(t)
     }
 
     // A new entry of the kind `kind` at the landing of record `q` of the source kind `k`.
@@ -65,10 +53,9 @@ impl Rows<'_> {
         ensures is { (L : Loaded) → Carries L (raw self.old).shape → result ≡ answered (land_fault L (view self.old) k q) self.old.given }
         ensures after { (L : Loaded) → Carries L (raw self.old).shape → (k < kinds_of self.old.source → L.kind_map k ≡ kind) → Becomes (raw self.old) (apply L (land k q)) (raw self.new) }
     {
-        match self.land_fault(k, q) {
-            Some(fault) => Err(fault),
-            None => Ok(self.born(kind, Slot::Landing(k, q))),
-        }
+        let t = Slot::Landing(k, q);
+        let t = self.free(self.has(t).then_some(t))?;
+        Ok(self.born(kind, t))
     }
 
     // Whether `e` lives and has the kind `from`, which the link `l` leaves.
@@ -78,24 +65,14 @@ impl Rows<'_> {
         self.lives(e) && (l as usize) < self.links && self.kind(e) == from
     }
 
-    // Why `define` is refused, if it is.
-    pub(crate) fn define_fault(&self, e: u32, l: u32, from: u32) -> Option<Refusal>
-        ensures is { (L : Loaded) → Carries L (raw self.now).shape → (l < self.now.links → L.from l ≡ from) → result ≡ define_fault L (view self.now) e l }
-        ensures room { result ≡ None → Has self.now (Slot.Cell e l) × (self.now.given < self.now.capacity) }
-    {
-        let there = self.leaves(e, l, from);
-        self.give_fault(there, Slot::Cell(e, l))
-    }
-
     // A new entry of the kind `to` at the cell of `e` and the link `l`, which leads from the kind `from`.
     pub fn define(&mut self, e: u32, l: u32, from: u32, to: u32) -> Result<u32, Refusal>
         requires { Tidy (raw self.old) }
         ensures is { (L : Loaded) → Carries L (raw self.old).shape → (l < self.old.links → L.from l ≡ from) → result ≡ answered (define_fault L (view self.old) e l) self.old.given }
         ensures after { (L : Loaded) → Carries L (raw self.old).shape → (l < self.old.links → L.from l ≡ from) → (l < self.old.links → L.to l ≡ to) → Becomes (raw self.old) (apply L (define e l)) (raw self.new) }
     {
-        match self.define_fault(e, l, from) {
-            Some(fault) => Err(fault),
-            None => Ok(self.born(to, Slot::Cell(e, l))),
-        }
+        let t = self.leaves(e, l, from).then_some(Slot::Cell(e, l));
+        let t = self.free(t)?;
+        Ok(self.born(to, t))
     }
 }

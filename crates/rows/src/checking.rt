@@ -1,13 +1,14 @@
 // Checks: what their two sides come to, and doing it.
-ghost use Rattle.std.specs.Prelude.{◌≡◌, []};
-ghost use Rattle.machine.specs.State.{landing};
-ghost use Rattle.machine.specs.Walking.{walk, walk_in};
+ghost use Rattle.std.specs.Prelude.{◌≡◌};
+ghost use Rattle.machine.specs.Walking.{walk};
 ghost use Rattle.machine.specs.Checking.{sides, effect};
 ghost use Rattle.machine.specs.Tables.{outcome};
 ghost use Rattle.rows.specs.Layout.{Tidy, Becomes};
 ghost use Rattle.rows.specs.View.{raw, view};
+ghost use Rattle.rows.specs.Standing.{led_effect};
 ghost use Rattle.rows.specs.Walks.{links, found, shown_side, shown_effect, Named};
 
+use crate::paths::Lead;
 use crate::walking::Side;
 use crate::{Rows, Slot};
 use machine::answers::Outcome;
@@ -42,14 +43,13 @@ impl Rows<'_> {
         sides(self.side(left, e), self.side(right, e))
     }
 
-    // What the check of a source link finds at the record `q` of the kind `from`, which it leads to the record `led` of the kind `to`;
-    // the path is the link's.
-    pub fn link_effect(&self, from: u32, q: u32, to: u32, led: u32, path: &[u32]) -> Effect
-        ensures { shown_effect result ≡ sides (walk_in (view self.now).held (landing to led) []) (walk_in (view self.now).held (landing from q) (links path.now)) }
+    // What the check of a source link finds at the record that `lead` names; the path is the link's.
+    pub fn link_effect(&self, lead: Lead, path: &[u32]) -> Effect
+        ensures { shown_effect result ≡ led_effect (view self.now) lead (links path.now) }
     {
         sides(
-            self.side_in(Slot::Landing(to, led), &[]),
-            self.side_in(Slot::Landing(from, q), path),
+            self.side_in(Slot::Landing(lead.to, lead.led), &[]),
+            self.side_in(Slot::Landing(lead.from, lead.q), path),
         )
     }
 

@@ -143,8 +143,7 @@ impl Rows<'_> {
         if !self.has(t) {
             return None;
         }
-        let w = self.words[self.place(t)];
-        if w == 0 { None } else { Some(w - 1) }
+        self.words[self.place(t)].checked_sub(1)
     }
 
     // The cell of entry `e` at link `l`.

@@ -1,5 +1,5 @@
 // The paths of the problem that stands in a table's own words, and the checks along them.
-ghost use Rattle.std.specs.Prelude.{◌≡◌, ◌&&◌, ◌==◌, nat_lt};
+ghost use Rattle.std.specs.Prelude.{◌≡◌, ◌&&◌, ◌==◌};
 ghost use Rattle.problems.specs.Tokens.{shown_token};
 ghost use Rattle.machine.specs.Loaded.{Loaded};
 ghost use Rattle.machine.specs.State.{lives};
@@ -7,12 +7,13 @@ ghost use Rattle.machine.specs.Checking.{rule_effect, link_effect};
 ghost use Rattle.machine.specs.Calls.{check_rule, check_link, apply, rule_fault, link_fault};
 ghost use Rattle.machine.specs.Tables.{outcome, answered};
 ghost use Rattle.rows.specs.Layout.{Tidy, Becomes};
-ghost use Rattle.rows.specs.View.{raw, view, has};
+ghost use Rattle.rows.specs.View.{raw, view};
 ghost use Rattle.rows.specs.Walks.{links};
-ghost use Rattle.rows.specs.Standing.{Stands, Standing, parts_in, shown_parts, linked, rule_of, rule_found, shown_found, checked, led_effect, Leads, Leading};
+ghost use Rattle.rows.specs.Standing.{Stands, Standing, parts_in, shown_parts, linked, rule_of, shown_found, Holds, Holding};
 
+use crate::Rows;
 use crate::checking::Effect;
-use crate::{Rows, Slot};
+use crate::problem::Load;
 use machine::answers::Outcome;
 use problems::{Found, link_map_at, rule_at};
 use words::faults::Refusal;
@@ -71,23 +72,18 @@ impl Rows<'_> {
         self.lives(e) && self.kind(e) == kind
     }
 
-    // What the check of a rule finds at `e`, or why it is refused.
-    fn rule_found(&self, rule: Option<(u32, &[u32], &[u32])>, e: u32) -> Result<Effect, Refusal>
-        ensures { shown_found result ≡ rule_found (view self.now) e (linked (shown_parts rule.entry)) }
+    // What the check of the rule `i` finds at `e`, or why it is refused.
+    fn rule_found(&self, found: &Found, e: u32, i: usize) -> Result<Effect, Refusal>
+        ensures { (L : Loaded) → Stands L (raw self.now) found.now → shown_found result ≡ answered (rule_fault L (view self.now) e i) (rule_effect L (view self.now) e i) }
     {
         if self.waits > 0 {
             return Err(Refusal::Waiting);
         }
-        match rule {
-            Some((first, left, right)) => {
-                if self.lives_as(e, first) {
-                    Ok(self.rule_effect(left, right, e))
-                } else {
-                    Err(Refusal::NotLiving)
-                }
-            }
-            None => Err(Refusal::NotLiving),
+        let (first, left, right) = self.rule(found, i).ok_or(Refusal::NotLiving)?;
+        if !self.lives_as(e, first) {
+            return Err(Refusal::NotLiving);
         }
+        Ok(self.rule_effect(left, right, e))
     }
 
     // Checks the rule `i` at `e`.
@@ -97,46 +93,31 @@ impl Rows<'_> {
         ensures is { (L : Loaded) → Stands L (raw self.old) found.now → result ≡ answered (rule_fault L (view self.old) e i) (outcome (rule_effect L (view self.old) e i)) }
         ensures after { (L : Loaded) → Stands L (raw self.old) found.now → Becomes (raw self.old) (apply L (check_rule e i)) (raw self.new) }
     {
-        let rule = self.rule(found, i);
-        match self.rule_found(rule, e) {
-            Err(fault) => Err(fault),
-            Ok(what) => Ok(self.act(what)),
-        }
+        let what = self.rule_found(found, e, i)?;
+        Ok(self.act(what))
     }
 
-    // Whether there is the source link `i`, and the record that it leads.
-    pub(crate) fn has_lead(&self, found: &Found, i: usize, lead: Lead) -> bool
-        ensures { result ≡ (nat_lt i found.now.source.links && has self.now (Slot.Landing lead.from lead.q)) }
-    {
-        i < found.source.links && self.has(Slot::Landing(lead.from, lead.q))
-    }
-
-    // What the check of a source link finds where it leads as `lead` says, or why it is refused; `there` says whether it does lead there.
-    fn link_found(&self, there: bool, lead: Lead, path: &[u32]) -> Result<Effect, Refusal>
-        ensures { shown_found result ≡ checked (view self.now) there (led_effect (view self.now) lead (links path.now)) }
+    // What the check of the source link `i` finds at the record `q`, or why it is refused.
+    fn link_found(&self, load: &Load, i: u32, q: u32) -> Result<Effect, Refusal>
+        requires { Holding (raw self.now) load.now.found load.now.leads }
+        ensures { (L : Loaded) → Holds L (raw self.now) load.now.found load.now.leads → shown_found result ≡ answered (link_fault L (view self.now) i q) (link_effect L (view self.now) i q) }
     {
         if self.waits > 0 {
             return Err(Refusal::Waiting);
         }
-        if there {
-            Ok(self.link_effect(lead.from, lead.q, lead.to, lead.led, path))
-        } else {
-            Err(Refusal::NotLiving)
-        }
+        let lead = self.lead(load, i, q).ok_or(Refusal::NotLiving)?;
+        let path = self.link_path(&load.found, i as usize);
+        Ok(self.link_effect(lead, path))
     }
 
-    // Checks the source link `i` where it leads as `lead` says.
-    pub fn check_link(&mut self, found: &Found, i: usize, lead: Lead) -> Result<Outcome, Refusal>
+    // Checks the source link `i` at the record `q`.
+    pub fn check_link(&mut self, load: &Load, i: u32, q: u32) -> Result<Outcome, Refusal>
         requires tidy { Tidy (raw self.old) }
-        requires leading { Leading (raw self.old) found.now i lead }
-        ensures is { (L : Loaded) → Leads L (raw self.old) found.now i lead → result ≡ answered (link_fault L (view self.old) i lead.q) (outcome (link_effect L (view self.old) i lead.q)) }
-        ensures after { (L : Loaded) → Leads L (raw self.old) found.now i lead → Becomes (raw self.old) (apply L (check_link i lead.q)) (raw self.new) }
+        requires holding { Holding (raw self.old) load.now.found load.now.leads }
+        ensures is { (L : Loaded) → Holds L (raw self.old) load.now.found load.now.leads → result ≡ answered (link_fault L (view self.old) i q) (outcome (link_effect L (view self.old) i q)) }
+        ensures after { (L : Loaded) → Holds L (raw self.old) load.now.found load.now.leads → Becomes (raw self.old) (apply L (check_link i q)) (raw self.new) }
     {
-        let there = self.has_lead(found, i, lead);
-        let path = self.link_path(found, i);
-        match self.link_found(there, lead, path) {
-            Err(fault) => Err(fault),
-            Ok(what) => Ok(self.act(what)),
-        }
+        let what = self.link_found(load, i, q)?;
+        Ok(self.act(what))
     }
 }

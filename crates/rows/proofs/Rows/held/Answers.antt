@@ -1,7 +1,7 @@
 use Rattle.std.proofs.Common.{sym}
 use Rattle.rows.specs.View.{raw, slot}
 use Rattle.rows.proofs.Places.{inside_true}
-use Rattle.rows.proofs.Shown.{held_out, held_none, held_some}
+use Rattle.rows.proofs.Shown.{held_out, held_told}
 use Rattle.rows.proofs.Rows.held.Goals as goal
 
 pub returns-then-not-has : goal.returns-then-not-has
@@ -10,8 +10,5 @@ returns-then-not-has c = held_out (raw c.args.self.now) (slot c.args.t) (sym c.i
 pub place-requires : goal.place-requires
 place-requires c = inside_true (raw c.args.self.now).shape c.args.self.now.given (slot c.args.t) (sym c.if-not-has.ensures)
 
-pub returns-then-w-eq0 : goal.returns-then-w-eq0
-returns-then-w-eq0 c = held_none (raw c.args.self.now) (slot c.args.t) _ (sym c.if-not-has.ensures) c.place.ensures.is c.if-w-eq0.true
-
-pub returns-else-w-eq0 : goal.returns-else-w-eq0
-returns-else-w-eq0 c = held_some (raw c.args.self.now) (slot c.args.t) _ (sym c.if-not-has.ensures) c.place.ensures.is c.if-w-eq0.false
+pub returns : goal.returns
+returns c = held_told (raw c.args.self.now) (slot c.args.t) _ (sym c.if-not-has.ensures) c.place.ensures.is _ c.checked_sub.ensures

@@ -1,9 +1,6 @@
 use Rattle.rows.specs.View.{raw}
-use Rattle.rows.proofs.Outline.{target_linked, target_ends}
+use Rattle.rows.proofs.Outline.{target_ends}
 use Rattle.rows.proofs.Rows.link_ends.Goals as goal
 
-pub schema_ends-requires : goal.schema_ends-requires
-schema_ends-requires c = target_linked c.requires.0 (raw c.args.self.now) c.args.found.now c.requires.1
-
 pub returns : goal.returns
-returns c L st = target_ends L (raw c.args.self.now) c.args.found.now st c.args.l c.schema_ends.result c.schema_ends.ensures.from c.schema_ends.ensures.to
+returns c L st = target_ends L (raw c.args.self.now) c.args.found.now st c.args.l _ _ c.unwrap_or.ensures c.ends.ensures
