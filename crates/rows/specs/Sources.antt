@@ -4,12 +4,12 @@ use Rattle.bounded.specs.Listed.{listed}
 use Rattle.rows.specs.declared.Source.{Source}
 use Rattle.rows.specs.declared.SourceKind.{SourceKind}
 
-abbrev pub kinds_of : Source → ℕ
+unfoldable pub kinds_of : Source → ℕ
 kinds_of s = length (listed s.kinds)
 
 -- the number of records of each kind, and the place of its first landing
-abbrev pub counts_of : Source → List ℕ
+unfoldable pub counts_of : Source → List ℕ
 counts_of s = map (λ (k : SourceKind). k.records) (listed s.kinds)
 
-abbrev pub starts_of : Source → List ℕ
+unfoldable pub starts_of : Source → List ℕ
 starts_of s = map (λ (k : SourceKind). k.start) (listed s.kinds)

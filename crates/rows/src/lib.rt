@@ -30,6 +30,13 @@ pub struct Source {
 }
 
 impl Source {
+    // How many kinds there are.
+    pub fn len(&self) -> usize
+        ensures { result ≡ kinds_of self.now }
+    {
+        self.kinds.len()
+    }
+
     // The kind `k`; one of no records where there is no such kind.
     pub fn kind(&self, k: u32) -> SourceKind
         ensures records { result.records ≡ slice_index (counts_of self.now) k }
@@ -119,7 +126,7 @@ impl Rows<'_> {
         match t {
             Slot::Cell(e, l) => (e as usize) < self.given && (l as usize) < self.links,
             Slot::Landing(k, q) => {
-                (k as usize) < self.source.kinds.len() && q < self.source.kind(k).records
+                (k as usize) < self.source.len() && q < self.source.kind(k).records
             }
         }
     }

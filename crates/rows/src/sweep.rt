@@ -101,7 +101,7 @@ impl Rows<'_> {
         requires ranked { Ranked (raw self.old) self.old.given }
         ensures { Goes (raw self.old) (renames (in_kinds (raw self.old).shape (kinds_of self.old.source))) (raw self.new) }
     {
-        let n = self.source.kinds.len() as u32;
+        let n = self.source.len() as u32;
         for k in 0..n {
             self.rename_kind(k);
         }

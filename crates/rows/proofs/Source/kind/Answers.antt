@@ -2,10 +2,12 @@ use Rattle.std.proofs.Common.{sym, ap, ◌∙◌, unwrap_or}
 use Rattle.std.proofs.Math.ListN.{get_or-map}
 use Rattle.std.proofs.lemmas.Option.{unwrap_or-slice_get}
 use Rattle.bounded.specs.Listed.{listed}
+use Rattle.rows.specs.Sources.{counts_of, starts_of}
 use Rattle.rows.specs.declared.SourceKind.{SourceKind}
 use Rattle.rows.proofs.Source.kind.Goals as goal
 
 pub returns : goal.returns
+unfolding counts_of starts_of
 returns c =
     let none : SourceKind = record { records = 0; start = 0 } in
     let ks = listed c.args.self.now.kinds in
