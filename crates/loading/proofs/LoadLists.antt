@@ -40,14 +40,17 @@ upto_alike f h (suc n) e = let a = upto_alike f h n (λ i l. e i (omega arith)) 
 
 -- parts of these sizes, one behind another
 module _ (f : ℕ → ℕ) (n place : ℕ) (sizes : List ℕ) (e : sizes ≡ upto f n) where
-  sized : length sizes ≡ n
+  pub sized : length sizes ≡ n
   sized = ap length e ∙ upto_length f n
 
   summed : (i : ℕ) → i ≤ n → place + sum (slice_index sizes) i ≡ place + sum f i
   summed i h = ap (λ k. place + k) (sum_same (slice_index sizes) f i (λ k b. ap (λ xs. slice_index xs k) e ∙ upto_at f n k 0 (omega arith)))
 
+  pub stacked : upto (λ i. place + sum (slice_index sizes) i) (length sizes) ≡ upto (λ i. place + sum f i) n
+  stacked = ap (upto (λ i. place + sum (slice_index sizes) i)) sized ∙ upto_alike _ _ n (λ i h. summed i (omega arith))
+
   pub piled : (starts : List ℕ) → take (length sizes) starts ≡ upto (λ i. place + sum (slice_index sizes) i) (length sizes) → take n starts ≡ upto (λ i. place + sum f i) n
-  piled starts p = ap (λ k. take k starts) (sym sized) ∙ p ∙ ap (upto (λ i. place + sum (slice_index sizes) i)) sized ∙ upto_alike _ _ n (λ i h. summed i (omega arith))
+  piled starts p = ap (λ k. take k starts) (sym sized) ∙ p ∙ stacked
 
   pub piled_behind : (next : ℕ) → next ≡ place + sum (slice_index sizes) (length sizes) → next ≡ place + sum f n
   piled_behind next q = q ∙ ap (λ k. place + sum (slice_index sizes) k) sized ∙ summed n (omega arith)

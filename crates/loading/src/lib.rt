@@ -6,7 +6,7 @@ ghost use Rattle.loading.specs.Taking.{Plans, Takes};
 
 use crate::copies::{clear, put_words};
 use crate::offer::Offer;
-use crate::places::pile;
+use crate::places::{pile, stack};
 use machine::answers::LoadFault;
 use problems::{Found, read_problem};
 use registers::register::Register;
@@ -53,7 +53,7 @@ fn plan<R: Register>(work: usize, problem: &[u32], source: &R) -> Result<Loading
     }
     let lands = problem.len();
     let counts = offer.counts();
-    let (starts, next) = pile(&counts[..schema.kinds as usize], lands);
+    let (kinds, next) = stack(&counts[..schema.kinds as usize], lands);
     let records = next - lands;
     if records > 4095 {
         return Err(LoadFault::Large);
@@ -68,11 +68,7 @@ fn plan<R: Register>(work: usize, problem: &[u32], source: &R) -> Result<Loading
     let links = found.target.links;
     Ok(Loading {
         found,
-        source: Source {
-            kinds: schema.kinds as usize,
-            counts,
-            starts,
-        },
+        source: kinds,
         leads,
         lands,
         records,
