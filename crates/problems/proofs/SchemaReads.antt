@@ -9,8 +9,7 @@ use Rattle.words.proofs.Inverse.{err_ok, then_ok, worded_ok, if_ok}
 use Rattle.problems.specs.declared.Schema.{Schema}
 use Rattle.words.specs.Items.{sized, one_word}
 use Rattle.problems.specs.Problem.{Link, schema_of, schema, link, links, whole_schema}
-use Rattle.problems.specs.Seen.{Linked}
-use Rattle.problems.specs.Shown.{seen}
+use Rattle.problems.specs.Seen.{Linked, seen}
 use Rattle.words.proofs.Items.{items_length}
 use Rattle.problems.proofs.Paths.{both}
 use Rattle.words.specs.declared.tags.Tag.TheVariants as tag
@@ -36,7 +35,6 @@ schema_told side ws at k e =
 
 pub record SchemaRead (ws : List ℕ) (at : ℕ) (s : Schema) : Type 0 where
   pub linked : Linked s.kinds ws s.place s.links
-  pub few_kinds : s.kinds ≤ 32
   pub few_links : s.links ≤ 64
   pub placed : s.place ≡ at + 1
 
@@ -54,7 +52,6 @@ schema_seen side ws at s e =
     let q : x.0.1 ≡ b.0 = ap (λ t. t.1) (sym h) in
     rw x.2 (record {
       linked = ap (λ k. sized (links k ws (at + 1))) p ∙ ap sized b.1 ∙ ap (λ l. Ok (length l)) (sym q);
-      few_kinds = rw p (schema_told side ws at a.0 a.1).few;
       few_links = rw q (items_length one_word (λ room p. starts tag.Link ws p) (link a.0 ws) 64 (at + 1) b.0 b.1);
       placed = refl;
     })
