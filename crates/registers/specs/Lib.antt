@@ -7,3 +7,4 @@ pub mod Writing
 pub mod Splices
 pub mod Parts
 pub mod WriteFaults
+pub mod Laws

@@ -1,4 +1,5 @@
 pub mod Layout
+pub mod Sources
 pub mod Writes
 pub mod View
 pub mod Calls

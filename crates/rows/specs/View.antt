@@ -2,6 +2,7 @@
 use Rattle.std.specs.Prelude.{ℕ, Bool}
 use Rattle.machine.specs.State as machine
 use Rattle.rows.specs.Layout.{Raw, Within, inside, shown, word, place}
+use Rattle.rows.specs.Sources.{kinds_of, counts_of, starts_of}
 use Rattle.rows.specs.declared.Rows.{Rows}
 use Rattle.rows.specs.declared.Slot.{Slot}
 use Rattle.rows.specs.declared.Slot.TheVariants.{Cell, Landing}
@@ -10,9 +11,9 @@ abbrev pub raw : Rows → Raw
 raw t = record {
   ws = t.words.now;
   shape = record {
-    kinds = t.source.kinds;
-    counts = t.source.counts;
-    starts = t.source.starts;
+    kinds = kinds_of t.source;
+    counts = counts_of t.source;
+    starts = starts_of t.source;
     lands = t.lands;
     records = t.records;
     base = t.base;

@@ -7,6 +7,7 @@ ghost use Rattle.machine.specs.Sweeping.{rank};
 ghost use Rattle.machine.specs.Calls.{land, define, apply, land_fault, define_fault};
 ghost use Rattle.machine.specs.Tables.{answered};
 ghost use Rattle.rows.specs.Layout.{Tidy, Becomes, Carries};
+ghost use Rattle.rows.specs.Sources.{kinds_of};
 ghost use Rattle.rows.specs.View.{raw, view};
 ghost use Rattle.rows.specs.Calls.{free};
 
@@ -50,7 +51,7 @@ impl Rows<'_> {
     pub fn land(&mut self, k: u32, q: u32, kind: u32) -> Result<u32, Refusal>
         requires { Tidy (raw self.old) }
         ensures is { (L : Loaded) → Carries L (raw self.old).shape → result ≡ answered (land_fault L (view self.old) k q) self.old.given }
-        ensures after { (L : Loaded) → Carries L (raw self.old).shape → (k < self.old.source.kinds → L.kind_map k ≡ kind) → Becomes (raw self.old) (apply L (land k q)) (raw self.new) }
+        ensures after { (L : Loaded) → Carries L (raw self.old).shape → (k < kinds_of self.old.source → L.kind_map k ≡ kind) → Becomes (raw self.old) (apply L (land k q)) (raw self.new) }
     {
         let t = Slot::Landing(k, q);
         let t = self.free(self.has(t).then_some(t))?;

@@ -1,7 +1,11 @@
 // A table in lent work words, as rows of words.
 #![tactic(auto)]
 
+ghost use Rattle.std.specs.Prelude.{◌≡◌, slice_index};
 ghost use Rattle.rows.specs.Layout.{Fits};
+ghost use Rattle.rows.specs.Sources.{kinds_of, counts_of, starts_of};
+
+use bounded::Bounded;
 
 pub mod calls;
 pub mod checking;
@@ -11,12 +15,38 @@ pub mod settle;
 pub mod sweep;
 pub mod walking;
 
-// The source's kinds: of each the number of its records and the place of its first landing.
+// A kind of the source: how many records it has, and the place of its first landing.
+#[derive(Clone, Copy)]
+pub struct SourceKind {
+    pub records: u32,
+    pub start: usize,
+}
+
+// The kinds of the source.
 #[derive(Clone, Copy)]
 pub struct Source {
-    pub kinds: usize,
-    pub counts: [u32; 32],
-    pub starts: [usize; 32],
+    pub kinds: Bounded<SourceKind, 32>,
+}
+
+impl Source {
+    // How many kinds there are.
+    pub fn len(&self) -> usize
+        ensures { result ≡ kinds_of self.now }
+    {
+        self.kinds.len()
+    }
+
+    // The kind `k`; one of no records where there is no such kind.
+    pub fn kind(&self, k: u32) -> SourceKind
+        ensures records { result.records ≡ slice_index (counts_of self.now) k }
+        ensures start { result.start ≡ slice_index (starts_of self.now) k }
+    {
+        let none = SourceKind {
+            records: 0,
+            start: 0,
+        };
+        self.kinds.get(k as usize).unwrap_or(none)
+    }
 }
 
 // A cell of an entry and a link, or a landing of a source kind and a record.
@@ -42,7 +72,7 @@ pub struct Rows<'a> {
     pub waits: usize,
     pub ghost fits: { Fits (record {
       ws = words.now;
-      shape = record { kinds = source.kinds; counts = source.counts; starts = source.starts; lands = lands; records = records; base = base; links = links; capacity = capacity };
+      shape = record { kinds = kinds_of source; counts = counts_of source; starts = starts_of source; lands = lands; records = records; base = base; links = links; capacity = capacity };
       given = given;
       front = front;
       waits = waits;
@@ -50,7 +80,7 @@ pub struct Rows<'a> {
 }
 
 impl Rows<'_> {
-    ghost use Rattle.std.specs.Prelude.{◌≡◌, ◌+◌, ◌<◌, length, Some, None, slice_index};
+    ghost use Rattle.std.specs.Prelude.{◌+◌, ◌<◌, length, Some, None};
     ghost use Rattle.machine.specs.State.{cell, landing, lives, hold, born};
     ghost use Rattle.machine.specs.Merging.{end, die};
     ghost use Rattle.machine.specs.Settling.{pop};
@@ -84,8 +114,9 @@ impl Rows<'_> {
     {
         match t {
             Slot::Cell(e, l) => (e as usize) < self.given && (l as usize) < self.links,
-            Slot::Landing(k, q) => (k as usize) < self.source.kinds
-                && q < self.source.counts[k as usize],
+            Slot::Landing(k, q) => {
+                (k as usize) < self.source.len() && q < self.source.kind(k).records
+            }
         }
     }
 
@@ -97,7 +128,7 @@ impl Rows<'_> {
     {
         match t {
             Slot::Cell(e, l) => self.at(e as usize, 3 + l as usize),
-            Slot::Landing(k, q) => self.source.starts[k as usize] + q as usize,
+            Slot::Landing(k, q) => self.source.kind(k).start + q as usize,
         }
     }
 

@@ -6,6 +6,7 @@ ghost use Rattle.std.specs.Prelude.{◌≡◌, ◌+◌, ◌-◌, ◌<◌, ◌≤
 ghost use Rattle.machine.specs.State.{same};
 ghost use Rattle.machine.specs.Sweeping.{rank, swept};
 ghost use Rattle.rows.specs.Layout.{Tidy, Becomes, count};
+ghost use Rattle.rows.specs.Sources.{kinds_of};
 ghost use Rattle.rows.specs.View.{raw, view, slot, Has};
 ghost use Rattle.rows.specs.Sweeps.{renames, in_row, in_rows, in_kind, in_kinds, moves, packs, packed, HeldLive, Still, Goes, Ranked};
 
@@ -86,11 +87,11 @@ impl Rows<'_> {
     fn rename_kind(&mut self, k: u32)
         requires still { Still (raw self.old) }
         requires forward_ranked { Ranked (raw self.old) self.old.given }
-        requires k_lt_kinds { k < self.old.source.kinds }
+        requires k_lt_kinds { k < kinds_of self.old.source }
         ensures goes { Goes (raw self.old) (renames (in_kind k (count (raw self.old).shape k))) (raw self.new) }
         ensures ranked { Ranked (raw self.new) self.new.given }
     {
-        let n = self.source.counts[k as usize];
+        let n = self.source.kind(k).records;
         for q in 0..n {
             self.rename(Slot::Landing(k, q));
         }
@@ -100,9 +101,9 @@ impl Rows<'_> {
     fn rename_landings(&mut self)
         requires still { Still (raw self.old) }
         requires ranked { Ranked (raw self.old) self.old.given }
-        ensures { Goes (raw self.old) (renames (in_kinds (raw self.old).shape self.old.source.kinds)) (raw self.new) }
+        ensures { Goes (raw self.old) (renames (in_kinds (raw self.old).shape (kinds_of self.old.source))) (raw self.new) }
     {
-        let n = self.source.kinds as u32;
+        let n = self.source.len() as u32;
         for k in 0..n {
             self.rename_kind(k);
         }

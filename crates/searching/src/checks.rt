@@ -81,7 +81,7 @@ impl Search for Rules {
     ghost sought = { λ t L s. rule_at L s t.entry };
 
     fn size(&self, _rows: &Rows, found: &Found, _leads: &[usize; 64]) -> u32 {
-        found.rules.min(found.rule_places.len()) as u32
+        found.rules.len() as u32
     }
 
     fn at(&self, rows: &Rows, found: &Found, _leads: &[usize; 64], i: u32) -> Option<Task> {

@@ -2,6 +2,7 @@
 ghost use Rattle.std.specs.Prelude.{◌≡◌, take};
 ghost use Rattle.registers.specs.Wheels.{wheel as wheel_of};
 ghost use Rattle.registers.specs.Turning.{meaning_of};
+ghost use Rattle.registers.specs.Laws.{wheel_lawful};
 
 use crate::register::Register;
 use crate::wheel::Wheel;
@@ -26,6 +27,8 @@ impl Wheel {
 
 impl Register for Wheel {
     ghost meaning = { λ w. meaning_of w };
+
+    ghost lawful = { λ w. wheel_lawful w.size (take w.used w.steps) };
 
     fn kinds(&self) -> u32 {
         1

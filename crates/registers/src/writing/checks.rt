@@ -1,6 +1,5 @@
 // What is tested before a register is written.
 ghost use Rattle.std.specs.Prelude.{◌≡◌, ◌≤◌, length};
-ghost use Rattle.registers.specs.Meaning.{Lawful};
 ghost use Rattle.registers.specs.Writing.{crowded, large, astray as astray_of, strays as strays_of, broken, lowest};
 ghost use Rattle.registers.specs.Parts.{file_words, row_words, links_words};
 
@@ -15,8 +14,7 @@ fn is_crowded<R: Register>(register: &R) -> bool
 
 // Whether a register passes the limits of a register file.
 pub(crate) fn is_large<R: Register>(register: &R) -> bool
-    ensures answer { result ≡ large (R.meaning register.now) }
-    ensures lawful { Lawful (R.meaning register.now) }
+    ensures { result ≡ large (R.meaning register.now) }
 {
     register.kinds() > 32 || register.links() > 64 || is_crowded(register)
 }
@@ -71,11 +69,9 @@ fn links_size<R: Register>(register: &R) -> usize
     ensures words { result ≡ length (links_words (R.meaning register.now) (R.meaning register.now).links) }
     ensures fits { result ≤ 274877906944 }
 {
-    let mut total = 0;
-    for link in 0..register.links() {
-        total += link_size(register, link);
-    }
-    total
+    (0..register.links())
+        .map(|link| link_size(register, link))
+        .sum()
 }
 
 // How many words a register takes.

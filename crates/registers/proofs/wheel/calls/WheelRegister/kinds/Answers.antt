@@ -1,6 +1,0 @@
-use Rattle.std.proofs.Common.{refl}
-use Rattle.registers.proofs.Wheels.{wheel_lawful}
-use Rattle.registers.proofs.wheel.calls.WheelRegister.kinds.Goals as goal
-
-pub returns : goal.returns
-returns c = record { answer = refl; lawful = wheel_lawful _ _ }

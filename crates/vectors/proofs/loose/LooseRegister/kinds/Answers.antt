@@ -1,6 +1,0 @@
-use Rattle.std.proofs.Common.{refl}
-use Rattle.vectors.proofs.Laws.{loose_lawful}
-use Rattle.vectors.proofs.loose.LooseRegister.kinds.Goals as goal
-
-pub returns : goal.returns
-returns c = record { answer = refl; lawful = loose_lawful _ _ _ _ _ _ }
