@@ -31,9 +31,8 @@ fn refuses_at_limits(rt: HostRuntime) -> Result<(), Fail> {
 // The kinds of a file, its links, and the place of the last; none if it is refused.
 fn outline(words: &[u32]) -> Option<(u32, usize, usize)> {
     let found = read_register(words).ok()?;
-    let last = found.links.saturating_sub(1);
-    let place = found.places.get(last).copied().unwrap_or(0);
-    Some((found.kinds, found.links, place))
+    let place = found.links.as_slice().last().copied().unwrap_or(0);
+    Some((found.kinds, found.links.len(), place))
 }
 
 fn takes_each(rt: &impl Abort, heap: Global, table: &[Taken]) -> Result<(), Fail> {
