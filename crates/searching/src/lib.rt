@@ -11,8 +11,8 @@ ghost use Rattle.searching.specs.Tasks.{shown_task, Always};
 use crate::checks::{Links, RuleEntries};
 use crate::gaps::{CellEntries, Kinds};
 use crate::search::lowest;
-use problems::Found;
 use rows::Rows;
+use rows::problem::Load;
 
 pub mod checks;
 pub mod gaps;
@@ -30,22 +30,22 @@ pub enum Task {
 }
 
 // The first of these that there is: to settle; a check of a source link that acts, and of a rule; an empty landing, and an empty cell.
-pub fn next(rows: &Rows, found: &Found, leads: &[usize; 64]) -> Option<Task>
+pub fn next(rows: &Rows, load: &Load) -> Option<Task>
     requires fits { Fits (raw rows.now) }
-    requires holding { Holding (raw rows.now) found.now leads.now }
-    ensures { Always (raw rows.now) found.now leads.now (λ L s. shown_task result ≡ shift.next L s) }
+    requires holding { Holding (raw rows.now) load.now.found load.now.leads }
+    ensures { Always (raw rows.now) load.now.found load.now.leads (λ L s. shown_task result ≡ shift.next L s) }
 {
     if rows.waits > 0 {
         return Some(Task::Settle);
     }
-    if let Some(task) = lowest(&Links, rows, found, leads) {
+    if let Some(task) = lowest(&Links, rows, &load.found, &load.leads) {
         return Some(task);
     }
-    if let Some(task) = lowest(&RuleEntries, rows, found, leads) {
+    if let Some(task) = lowest(&RuleEntries, rows, &load.found, &load.leads) {
         return Some(task);
     }
-    if let Some(task) = lowest(&Kinds, rows, found, leads) {
+    if let Some(task) = lowest(&Kinds, rows, &load.found, &load.leads) {
         return Some(task);
     }
-    lowest(&CellEntries, rows, found, leads)
+    lowest(&CellEntries, rows, &load.found, &load.leads)
 }
