@@ -34,7 +34,7 @@ fn tell_problem(rt: &impl Print, problem: &[u32]) -> io::Result<()> {
     if let Ok(found) = read_problem(problem) {
         tell_schema(rt, "source", problem, found.source)?;
         tell_schema(rt, "target", problem, found.target)?;
-        let rules = found.rules;
+        let rules = found.rules.len();
         println!(rt; "rules: {rules}")?;
     }
     Ok(())

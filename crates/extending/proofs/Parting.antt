@@ -1,24 +1,45 @@
 -- Where the problem's words end.
-use Rattle.std.proofs.Common.{◌≡◌, ℕ, suc, ◌+◌, ◌<◌, ◌≤◌, Bool, true, false, cond, eqb, List, length, get_or, drop, ap, ◌∙◌, arith}
-use Rattle.std.proofs.lemmas.List.{at_drop_more, at_drop_all}
+use Rattle.std.proofs.Common.{◌≡◌, ℕ, zero, suc, ◌+◌, ◌<◌, true, false, cond, eqb, List, [], ◌∷◌, length, Some, None, Option, refl, sym, ap, ◌∙◌, add-one, arith}
+use Rattle.std.specs.List.{AllWithin, HoldsAt}
+use Rattle.std.specs.Option.{MatchOption}
+use Rattle.std.proofs.lemmas.Bool.Decides.{nat_tests}
 use Rattle.words.specs.Words.{tag}
-use Rattle.extending.specs.Extend.{problem_size}
+use Rattle.extending.specs.Extend.{problem_size, PartedAt}
 
--- no word before i has the end tag
-abbrev pub NoneBefore : List ℕ → ℕ → Type 0
-NoneBefore ws i = problem_size ws ≡ i + problem_size (drop i ws)
+-- one more than the place of the first word with the end tag, or the number of words
+abbrev pub behind : ℕ → Option ℕ → ℕ
+behind n (Some i) = i + 1
+behind n None = n
 
-module _ (ws : List ℕ) (i : ℕ) (before : NoneBefore ws i) where
-  here : i < length ws → (b : Bool) → eqb (tag (get_or ws i 0)) 7 ≡ b → problem_size (drop i ws) ≡ cond b 1 (suc (problem_size (drop (i + 1) ws)))
-  unfolding problem_size
-  here h b e = at_drop_more problem_size ws i 0 h ∙ ap (λ x. cond x 1 (suc (problem_size (drop (i + 1) ws)))) e
+-- the place of the first word with the end tag, if one has it
+abbrev pub First : List ℕ → Option ℕ → Type 0
+First ws r = MatchOption r (AllWithin (λ w. tag w ≡ 7 → ⊥) ws 0 (length ws)) (λ i. (i < length ws) × HoldsAt (λ w. tag w ≡ 7) ws i × AllWithin (λ w. tag w ≡ 7 → ⊥) ws 0 i)
 
-  pub ends_here : i < length ws → eqb (tag (get_or ws i 0)) 7 ≡ true → i + 1 ≡ problem_size ws
-  ends_here h e = let p = here h true e in omega (arith, p, before)
+other : (w : ℕ) → (tag w ≡ 7 → ⊥) → eqb (tag w) 7 ≡ false
+other w h = grind (arith, nat_tests)
 
-  pub goes_on : i < length ws → eqb (tag (get_or ws i 0)) 7 ≡ false → NoneBefore ws (i + 1)
-  goes_on h e = let p = here h false e in omega (arith, p, before)
+same : (w : ℕ) → tag w ≡ 7 → eqb (tag w) 7 ≡ true
+same w h = grind (arith, nat_tests)
 
-  pub ends_nowhere : length ws ≤ i → i ≡ problem_size ws
-  unfolding problem_size
-  ends_nowhere h = let p : problem_size (drop i ws) ≡ 0 = at_drop_all problem_size ws i h in omega (arith, p, before)
+tail : (w : ℕ) (ws : List ℕ) (n : ℕ) → AllWithin (λ w. tag w ≡ 7 → ⊥) (w ∷ ws) 0 (suc n) → AllWithin (λ w. tag w ≡ 7 → ⊥) ws 0 n
+tail w ws n h k d a b = h (suc k) d (omega arith) (omega arith)
+
+size_none : (ws : List ℕ) → AllWithin (λ w. tag w ≡ 7 → ⊥) ws 0 (length ws) → length ws ≡ problem_size ws
+unfolding problem_size
+size_none [] h = refl
+size_none (w ∷ ws) h = ap suc (size_none ws (tail w ws (length ws) h)) ∙ sym (ap (λ b. cond b 1 (suc (problem_size ws))) (other w (h 0 0 (omega arith) (omega arith))))
+
+size_some : (ws : List ℕ) (i : ℕ) → i < length ws → HoldsAt (λ w. tag w ≡ 7) ws i → AllWithin (λ w. tag w ≡ 7 → ⊥) ws 0 i → suc i ≡ problem_size ws
+unfolding problem_size
+size_some [] i l e h = absurd (omega arith)
+size_some (w ∷ ws) zero l e h = sym (ap (λ b. cond b 1 (suc (problem_size ws))) (same w (e 0)))
+size_some (w ∷ ws) (suc i) l e h =
+    ap suc (size_some ws i (omega arith) e (tail w ws i h)) ∙ sym (ap (λ b. cond b 1 (suc (problem_size ws))) (other w (h 0 0 (omega arith) (omega arith))))
+
+pub size_told : (ws : List ℕ) (r : Option ℕ) → First ws r → behind (length ws) r ≡ problem_size ws
+size_told ws None h = size_none ws h
+size_told ws (Some i) (l, e, h) = add-one i ∙ size_some ws i l e h
+
+pub parted_told : (ws : List ℕ) (r : Option ℕ) → First ws r → PartedAt ws (behind (length ws) r)
+parted_told ws None h = record { within = omega arith; none_before = λ k l. h k 0 (omega arith) (omega arith); ends = λ l. absurd (omega (arith, l)) }
+parted_told ws (Some i) (l, e, h) = record { within = omega arith; none_before = λ k b. h k 0 (omega arith) (omega arith); ends = λ _. (i, refl, e 0) }

@@ -4,15 +4,15 @@
 ghost use Rattle.std.specs.Prelude.{◌≡◌};
 ghost use Rattle.extending.specs.Extend.{problem_size, PartedAt};
 
+use words::tags::Tag;
+
 // How many words the problem has: up to the first with the end tag, that one included, or all.
 pub fn problem_size(words: &[u32]) -> usize
     ensures size { result ≡ problem_size words.now }
     ensures parted { PartedAt words.now result }
 {
-    for i in 0..words.len() {
-        if words[i] / 268435456 == 7 {
-            return i + 1;
-        }
-    }
-    words.len()
+    words
+        .iter()
+        .position(|word| word / 268435456 == Tag::End.number())
+        .map_or(words.len(), |at| at + 1)
 }

@@ -1,8 +1,8 @@
 -- The tokens of an accepted problem's rules and link maps.
-use Rattle.std.proofs.Common.{◌≡◌, ℕ, suc, ◌+◌, ◌-◌, ◌*◌, ◌/◌, ◌%◌, ◌<◌, ◌≤◌, Bool, true, false, cond, ltb, ◌⊎◌, List, [], ◌∷◌, map, length, get_or, take, Some, None, Ok, Result, sym, refl, ap, ◌∙◌, ⊎_elim, arith, length-take}
-use Rattle.std.proofs.lemmas.List.{length-map, get_or-take}
+use Rattle.std.proofs.Common.{◌≡◌, ℕ, suc, ◌+◌, ◌-◌, ◌*◌, ◌/◌, ◌%◌, ◌<◌, Bool, true, false, cond, ltb, List, [], ◌∷◌, map, length, get_or, Some, None, Ok, sym, refl, ap, ◌∙◌, arith}
+use Rattle.std.proofs.lemmas.List.{length-map}
 use Rattle.std.proofs.lemmas.Bool.Decides.{nat_tests}
-use Rattle.words.specs.declared.faults.WordFault.{WordFault}
+use Rattle.bounded.specs.Listed.{listed}
 use Rattle.words.specs.Items.{places}
 use Rattle.words.specs.Tags.{tagged}
 use Rattle.words.specs.Words.{starts}
@@ -20,21 +20,6 @@ use Rattle.problems.proofs.Problems.{problem_told}
 use Rattle.problems.proofs.Layouts.{read_layout}
 use Rattle.problems.proofs.Accepting.{outline_ok}
 use Rattle.words.specs.declared.tags.Tag.TheVariants as tag
-
--- the first n places, as the code finds the i-th of them
-module _ (ws ps : List ℕ) (n i : ℕ) where
-  pub token_found : (r : Result Shown WordFault) → i < n → i < length ps → r ≡ token ws (get_or ps i 0) → unless_refused r ≡ token_in ws (take n ps) i
-  token_found r h k e =
-      let l = length-take n ps in
-      let z : ltb i (length (take n ps)) ≡ true = let j : i < length (take n ps) = omega arith in grind (arith, nat_tests) in
-      ap unless_refused (e ∙ ap (token ws) (sym (get_or-take n ps i 0 h))) ∙ sym (ap (λ b. cond b (unless_refused (token ws (get_or (take n ps) i 0))) None) z)
-
-  pub token_none : n ≤ i ⊎ length ps ≤ i → None ≡ token_in ws (take n ps) i
-  token_none h =
-      let l = length-take n ps in
-      let k : length (take n ps) ≤ i = ⊎_elim (λ a. omega arith) (λ a. omega arith) h in
-      let z : ltb i (length (take n ps)) ≡ false = grind (arith, nat_tests) in
-      sym (ap (λ b. cond b (unless_refused (token ws (get_or (take n ps) i 0))) None) z)
 
 places_length : {X : Type 0} (size : X → ℕ) (xs : List X) (at : ℕ) → length (places size at xs) ≡ length xs
 places_length size [] at = refl
@@ -89,13 +74,13 @@ module _ (ws : List ℕ) (p : Problem) (e : read ws ≡ Ok p) (i : ℕ) where
 
 -- the places that the code keeps are those of the problem that was read
 module _ (ws : List ℕ) (f : Found) (t : told (Ok f) ≡ outline_of (read ws)) (i : ℕ) where
-  pub rule_kept : token_in ws (take f.rules f.rule_places) i ≡ rule_token (read ws) i
+  pub rule_kept : token_in ws (listed f.rules) i ≡ rule_token (read ws) i
   rule_kept =
       let x = outline_ok (read ws) _ t in
       let same = ok_same (sym (t ∙ ap outline_of x.1)) in
       ap (λ s. token_in ws s.rules i) same ∙ by_places rule_size ws (rules_at x.0) i x.0.rules _ (rule_there ws x.0 x.1 i) ∙ ap (λ r. rule_token r i) (sym x.1)
 
-  pub map_kept : token_in ws (take f.source.links f.map_places) i ≡ map_token (read ws) i
+  pub map_kept : token_in ws (listed f.link_maps) i ≡ map_token (read ws) i
   map_kept =
       let x = outline_ok (read ws) _ t in
       let same = ok_same (sym (t ∙ ap outline_of x.1)) in

@@ -1,20 +1,16 @@
--- The code's outline of rules, as lists.
-use Rattle.std.specs.Prelude.{ℕ, ◌+◌, List, length, take, Ok, Err, Result}
+-- The code's outline of rules and maps, as lists.
+use Rattle.std.specs.Prelude.{ℕ, ◌+◌, List, length, Ok, Err, Result}
+use Rattle.bounded.specs.declared.Bounded.{Bounded}
+use Rattle.bounded.specs.Listed.{listed}
 use Rattle.words.specs.declared.faults.SchemaFault.{SchemaFault}
-use Rattle.problems.specs.declared.RulePlaces.{RulePlaces}
-use Rattle.problems.specs.declared.MapPlaces.{MapPlaces}
 use Rattle.problems.specs.declared.Schema.{Schema}
 use Rattle.problems.specs.declared.Found.{Found}
 use Rattle.words.specs.Items.{places, sizes, one_word}
 use Rattle.problems.specs.Problem.{Link, Problem, rule_size, path_size}
 
-abbrev pub shown : Result RulePlaces SchemaFault → Result (List ℕ × ℕ) SchemaFault
-shown (Ok l) = Ok (take l.count l.places, l.next)
+abbrev pub shown : {N : ℕ} → Result (Bounded ℕ N × ℕ) SchemaFault → Result (List ℕ × ℕ) SchemaFault
+shown (Ok l) = Ok (listed l.0, l.1)
 shown (Err e) = Err e
-
-abbrev pub shown_maps : ℕ → Result MapPlaces SchemaFault → Result (List ℕ × ℕ) SchemaFault
-shown_maps n (Ok l) = Ok (take n l.places, l.next)
-shown_maps n (Err e) = Err e
 
 -- what the code keeps of a schema
 abbrev pub seen : ℕ → Result (ℕ × List Link) SchemaFault → Result Schema SchemaFault
@@ -30,7 +26,7 @@ pub record Seen : Type 0 where
   pub link_maps : List ℕ
 
 abbrev pub told : Result Found SchemaFault → Result Seen SchemaFault
-told (Ok f) = Ok (record { source = f.source; target = f.target; rules = take f.rules f.rule_places; maps = f.maps; link_maps = take f.source.links f.map_places })
+told (Ok f) = Ok (record { source = f.source; target = f.target; rules = listed f.rules; maps = f.maps; link_maps = listed f.link_maps })
 told (Err e) = Err e
 
 abbrev pub outline_from : Schema → Schema → ℕ → Result Problem SchemaFault → Result Seen SchemaFault

@@ -2,14 +2,16 @@
 #![tactic(auto)]
 
 ghost use Rattle.std.specs.Prelude.{◌≡◌, ◌+◌, ◌-◌, ◌/◌, ◌%◌, ◌<◌, ◌≤◌, length, take, IfOk, Ok, slice_index, slice_index_or};
+ghost use Rattle.bounded.specs.Listed.{listed};
 ghost use Rattle.words.specs.Items.{one_word, sized, behind, outlined, ended};
 ghost use Rattle.problems.specs.Problem.{no_link, schema as schema_of, link as link_of, links as links_of, step as step_of, path as path_of, rule as rule_of, rule_size, rules as rules_of, kind_mapped, kind_maps, link_mapped, link_maps, path_size, whole_schema, behind_schemas, read as read_of};
 ghost use Rattle.problems.specs.Seen.{ends_of, Linked, links_got, reached, Mapped, kinds_got};
 ghost use Rattle.problems.specs.Layout.{ReadsLayouts, ReadsOnce};
 ghost use Rattle.problems.specs.Accepts.{Laid};
 ghost use Rattle.problems.specs.Tokens.{shown_token, token_in, rule_token, map_token};
-ghost use Rattle.problems.specs.Shown.{shown, shown_maps, seen, told as told_of, outline_from, outline_of};
+ghost use Rattle.problems.specs.Shown.{shown, seen, told as told_of, outline_from, outline_of};
 
+use bounded::Bounded;
 use words::faults::{SchemaFault, WordFault};
 use words::reading::{end, fields_at, starts, word};
 use words::tags::Tag;
@@ -30,10 +32,10 @@ fn schema_kinds(words: &[u32], side: u32, at: usize) -> Result<u32, SchemaFault>
 {
     let v = word(words, at, Tag::Schema)?;
     if v / 256 != side {
-        return Err(SchemaFault::Words(WordFault::Wrong(at)));
+        return Err(WordFault::Wrong(at).into());
     }
     if v % 256 == 0 || v % 256 > KINDS {
-        return Err(SchemaFault::Words(WordFault::Limit(at)));
+        return Err(WordFault::Limit(at).into());
     }
     Ok(v % 256)
 }
@@ -44,7 +46,7 @@ fn link(words: &[u32], kinds: u32, room: usize, at: usize) -> Result<usize, Sche
 {
     let v = word(words, at, Tag::Link)?;
     if room == 0 {
-        return Err(SchemaFault::Words(WordFault::Limit(at)));
+        return Err(WordFault::Limit(at).into());
     }
     if v / 256 >= kinds || v % 256 >= kinds {
         return Err(SchemaFault::Unknown(at));
@@ -136,7 +138,7 @@ fn rule(words: &[u32], schema: Schema, room: usize, at: usize) -> Result<usize, 
     let left = v / 256 % 256;
     let right = v % 256;
     if room == 0 || left > STEPS || right > STEPS {
-        return Err(SchemaFault::Words(WordFault::Limit(at)));
+        return Err(WordFault::Limit(at).into());
     }
     let first = v / 65536;
     if first >= schema.kinds {
@@ -151,32 +153,22 @@ fn rule(words: &[u32], schema: Schema, room: usize, at: usize) -> Result<usize, 
 }
 
 // Where the rules stand, and the place behind the last.
-#[derive(Clone, Copy)]
-struct RulePlaces {
-    count: usize,
-    places: [usize; RULES],
-    next: usize,
-}
-
-fn rules(words: &[u32], schema: Schema, start: usize) -> Result<RulePlaces, SchemaFault>
+fn rules(
+    words: &[u32],
+    schema: Schema,
+    start: usize,
+) -> Result<(Bounded<usize, RULES>, usize), SchemaFault>
     requires { Linked schema.kinds words.now schema.place schema.links }
-    ensures few { IfOk result (λ l. l.count ≤ 128) }
-    ensures told { shown result ≡ outlined rule_size start (rules_of schema.kinds (links_got schema.kinds words.now schema.place) words.now start) }
+    ensures { shown result ≡ outlined rule_size start (rules_of schema.kinds (links_got schema.kinds words.now schema.place) words.now start) }
 {
     let mut at = start;
-    let mut count = 0;
-    let mut places = [0; RULES];
+    let mut places = Bounded::new(0);
     while starts(words, at, Tag::Rule) {
-        let next = rule(words, schema, RULES - count, at)?;
-        places[count] = at;
-        count += 1;
+        let next = rule(words, schema, RULES - places.len(), at)?;
+        places.push(at);
         at = next;
     }
-    Ok(RulePlaces {
-        count,
-        places,
-        next: at,
-    })
+    Ok((places, at))
 }
 
 // The kind map of a source kind, with that many left; tells the place behind it.
@@ -226,7 +218,7 @@ fn link_map(
     let v = word(words, at, Tag::LinkMap)?;
     let n = v % 256;
     if n > STEPS {
-        return Err(SchemaFault::Words(WordFault::Limit(at)));
+        return Err(WordFault::Limit(at).into());
     }
     let link = v / 256;
     if link as usize + left != source.links {
@@ -243,30 +235,24 @@ fn link_map(
 }
 
 // Where the link maps stand, and the place behind the last.
-#[derive(Clone, Copy)]
-struct MapPlaces {
-    places: [usize; LINKS],
-    next: usize,
-}
-
 fn link_maps(
     words: &[u32],
     source: Schema,
     target: Schema,
     maps: usize,
     start: usize,
-) -> Result<MapPlaces, SchemaFault>
+) -> Result<(Bounded<usize, LINKS>, usize), SchemaFault>
     requires { (Linked source.kinds words.now source.place source.links) × ((Linked target.kinds words.now target.place target.links) × ((Mapped source.kinds target.kinds words.now maps) × (source.links ≤ 64))) }
-    ensures { shown_maps source.links result ≡ outlined path_size start (link_maps (links_got source.kinds words.now source.place) (kinds_got source.kinds target.kinds words.now maps) (links_got target.kinds words.now target.place) words.now start) }
+    ensures { shown result ≡ outlined path_size start (link_maps (links_got source.kinds words.now source.place) (kinds_got source.kinds target.kinds words.now maps) (links_got target.kinds words.now target.place) words.now start) }
 {
     let mut at = start;
-    let mut places = [0; LINKS];
+    let mut places = Bounded::new(0);
     for i in 0..source.links {
         let next = link_map(words, source, target, maps, source.links - i, at)?;
-        places[i] = at;
+        places.push(at);
         at = next;
     }
-    Ok(MapPlaces { places, next: at })
+    Ok((places, at))
 }
 
 // A schema and its links.
@@ -287,10 +273,9 @@ fn schema_at(words: &[u32], side: u32, at: usize) -> Result<Schema, SchemaFault>
 pub struct Found {
     pub source: Schema,
     pub target: Schema,
-    pub rules: usize,
-    pub rule_places: [usize; RULES],
+    pub rules: Bounded<usize, RULES>,
     pub maps: usize,
-    pub map_places: [usize; LINKS],
+    pub link_maps: Bounded<usize, LINKS>,
 }
 
 // What stands behind the schemas.
@@ -299,21 +284,16 @@ fn rest(words: &[u32], source: Schema, target: Schema, start: usize) -> Result<F
     ensures { told_of result ≡ outline_from source target start (behind_schemas words.now
         (source.kinds, links_got source.kinds words.now source.place) (target.kinds, links_got target.kinds words.now target.place) start) }
 {
-    let found = rules(words, target, start)?;
-    let maps = found.next;
+    let (rules, maps) = rules(words, target, start)?;
     let next = kind_maps(words, source.kinds, target.kinds, maps)?;
-    let links = link_maps(words, source, target, maps, next)?;
-    let _ = end(words, links.next)?;
-    let count = found.count;
-    let rule_places = found.places;
-    let map_places = links.places;
+    let (link_maps, last) = link_maps(words, source, target, maps, next)?;
+    let _ = end(words, last)?;
     Ok(Found {
         source,
         target,
-        rules: count,
-        rule_places,
+        rules,
         maps,
-        map_places,
+        link_maps,
     })
 }
 
@@ -336,31 +316,26 @@ pub fn read_problem(words: &[u32]) -> Result<Found, SchemaFault>
     read(words)
 }
 
-// The token at the i-th of the first n places, unless it is refused.
-fn token_in<'a>(words: &'a [u32], places: &[usize], n: usize, i: usize) -> Option<Token<'a>>
-    ensures { shown_token result ≡ token_in words.now (take n places.now) i }
+// The token at the i-th of the places, unless it is refused.
+fn token_in<'a>(words: &'a [u32], places: &[usize], i: usize) -> Option<Token<'a>>
+    ensures { shown_token result ≡ token_in words.now places.now i }
 {
-    if i >= n || i >= places.len() {
-        return None;
-    }
-    match token_at(words, places[i]) {
-        Ok(token) => Some(token),
-        Err(_) => None,
-    }
+    let at = *places.get(i)?;
+    token_at(words, at).ok()
 }
 
 // The token of the rule of that number: its first kind, its two paths, its place.
 pub fn rule_at<'a>(words: &'a [u32], found: &Found, i: usize) -> Option<Token<'a>>
-    ensures stands { shown_token result ≡ token_in words.now (take found.now.rules found.now.rule_places) i }
+    ensures stands { shown_token result ≡ token_in words.now (listed found.now.rules) i }
     ensures known { told_of (Ok found.now) ≡ outline_of (read_of words.now) → shown_token result ≡ rule_token (read_of words.now) i }
 {
-    token_in(words, &found.rule_places, found.rules, i)
+    token_in(words, found.rules.as_slice(), i)
 }
 
 // The token of the link map of that source link: its path, its place.
 pub fn link_map_at<'a>(words: &'a [u32], found: &Found, i: usize) -> Option<Token<'a>>
-    ensures stands { shown_token result ≡ token_in words.now (take found.now.source.links found.now.map_places) i }
+    ensures stands { shown_token result ≡ token_in words.now (listed found.now.link_maps) i }
     ensures known { told_of (Ok found.now) ≡ outline_of (read_of words.now) → shown_token result ≡ map_token (read_of words.now) i }
 {
-    token_in(words, &found.map_places, found.source.links, i)
+    token_in(words, found.link_maps.as_slice(), i)
 }

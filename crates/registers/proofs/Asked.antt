@@ -7,12 +7,15 @@ use Rattle.std.specs.List.{range_with_len, FoldsTo, HoldsAt, AllWithin}
 use Rattle.std.specs.Option.{MatchOption}
 use Rattle.std.specs.declared.ops.Range.{Range}
 use Rattle.std.proofs.iter.Yields.{nat_range_steps}
-use Rattle.std.proofs.lemmas.Iterator.{cases_from_any, first_from_Range, YieldsList-from_range}
+use Rattle.std.proofs.lemmas.Iterator.{YieldsList, cases_from_any, first_from_Range, YieldsList-from_range}
 use Rattle.std.proofs.lemmas.List.FromFn.{length-range_with_len, get_or-range_with_len}
 use denote.Param.Members.{Mut}
 use denote.Ref.{Bor}
 use Rattle.registers.specs.Writing.{some_below, lowest}
 use Rattle.registers.proofs.WrittenLists.{some_found, none_from, lowest_found, lowest_from}
+
+pub yields_below : (n : ℕ) {s : Range ℕ} → s ≡ record { start = 0; end = n } → YieldsList nat_range_steps (λ x. x) s (range_with_len 0 n)
+yields_below n e = YieldsList-from_range 0 n n e (omega arith)
 
 module _ (p : ℕ → Bool) (n : ℕ) where
   any_told : (r : Bool)
@@ -29,7 +32,7 @@ module _ (p : ℕ → Bool) (n : ℕ) where
       → (xs : List ℕ) × (o : Option ℕ) × (j : F) × YieldsThen nat_range_steps s xs o u × FoldsTo (λ q x t. Called g q (x, tt) false t) f xs j × MatchOption o (r ≡ false) (λ x. (r ≡ true) × ((h : F) × Called g j (x, tt) true h))
       → ((x : ℕ) (b : Bool) (t : F) → Called g f (x, tt) b t → (t ≡ f) × (x < n → p x ≡ b))
       → r ≡ some_below p n
-  any_asked u f r e d h = any_told r (cases_from_any u f r (λ x. x < n → p x ≡ true) (λ x. x < n → p x ≡ false) d (YieldsList-from_range 0 n n e (omega arith)) (λ x t k. (h x true t k).1) (λ x t k. h x false t k))
+  any_asked u f r e d h = any_told r (cases_from_any u f r (λ x. x < n → p x ≡ true) (λ x. x < n → p x ≡ false) d (yields_below n e) (λ x t k. (h x true t k).1) (λ x t k. h x false t k))
 
   find_told : (a b : ℕ) (r : Option ℕ) → a ≡ 0 → b ≡ n
       → MatchOption r ((k : ℕ) → a ≤ k → k < b → k < n → p k ≡ false) (λ i. (a ≤ i) × (i < b) × (i < n → p i ≡ true) × ((k : ℕ) → a ≤ k → k < i → k < n → p k ≡ false))

@@ -1,7 +1,8 @@
 -- The words of a register, part by part.
-use Rattle.std.proofs.Common.{◌≡◌, ℕ, zero, suc, ◌+◌, ◌*◌, ◌<◌, ◌≤◌, List, [], ◌∷◌, ◌++◌, map, length, drop, Some, None, sym, refl, ap, ◌∙◌, ⊎_elim, add-one, arith, length-append}
-use Rattle.std.specs.List.{flat_map}
-use Rattle.std.proofs.lemmas.List.{append-nil, length-map, flat_map_more, map_push}
+use Rattle.std.proofs.Common.{◌≡◌, ℕ, zero, suc, ◌+◌, ◌*◌, ◌<◌, ◌≤◌, List, [], ◌∷◌, ◌++◌, map, length, drop, Some, None, sym, refl, ap, ◌∙◌, ⊎_elim, zero-add, add-one, arith, length-append}
+use Rattle.std.specs.List.{flat_map, range_with_len, sum_by}
+use Rattle.std.proofs.lemmas.List.FromFn.{sum_by-map-range_with_len_more}
+use Rattle.std.proofs.lemmas.List.{append-nil, map-id, length-map, flat_map_more, map_push}
 use Rattle.std.proofs.lemmas.Bool.{cases_lt}
 use Rattle.words.specs.declared.tags.Tag.{Tag}
 use Rattle.words.specs.declared.tags.Tag.TheVariants as tag
@@ -56,6 +57,16 @@ module _ (m : Meaning) where
 
   pub links_length : (n : ℕ) → length (links_words m (n + 1)) ≡ length (links_words m n) + length (row_words m n)
   links_length n = ap (λ k. length (links_words m k)) (add-one n) ∙ links_step n
+
+  pub links_sum : (n : ℕ) → sum_by (λ l. length (row_words m l)) (range_with_len 0 n) ≡ length (links_words m n)
+  links_sum n = ap (sum_by (λ l. length (row_words m l))) (sym (map-id (range_with_len 0 n))) ∙ by n
+    where
+      by : (n : ℕ) → sum_by (λ l. length (row_words m l)) (map (λ l. l) (range_with_len 0 n)) ≡ length (links_words m n)
+      by zero = sym (ap length links_none)
+      by (suc n) =
+          let e = sum_by-map-range_with_len_more (λ l. length (row_words m l)) (λ l. l) 0 n n (zero-add n) in
+          let s = links_step n in
+          rw add-one at e ∙ ap (λ k. k + length (row_words m n)) (by n) ∙ sym s
 
   pub links_start : (at : ℕ) (old : List ℕ) → old ≡ spliced at (links_words m 0) old
   unfolding links_words upto

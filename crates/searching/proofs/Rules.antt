@@ -1,5 +1,6 @@
 -- How many rules the problem in a table's own words has.
-use Rattle.std.proofs.Common.{◌≡◌, ℕ, suc, ◌+◌, min, List, [], ◌∷◌, length, Ok, Err, Result, sym, refl, ap, ◌∙◌, length-take}
+use Rattle.std.proofs.Common.{◌≡◌, ℕ, suc, ◌+◌, List, [], ◌∷◌, length, Ok, Err, Result, sym, refl, ap, ◌∙◌}
+use Rattle.bounded.specs.Listed.{listed}
 use Rattle.words.specs.declared.faults.SchemaFault.{SchemaFault}
 use Rattle.words.specs.Items.{places}
 use Rattle.problems.specs.declared.Found.{Found}
@@ -17,6 +18,6 @@ abbrev rules_seen : Result Seen SchemaFault → ℕ
 rules_seen (Ok s) = length s.rules
 rules_seen (Err e) = 0
 
-pub rules_told : (L : Loaded) (r : Raw) (f : Found) → Stands L r f → min f.rules (length f.rule_places) ≡ L.rules
+pub rules_told : (L : Loaded) (r : Raw) (f : Found) → Stands L r f → length (listed f.rules) ≡ L.rules
 rules_told L r f st =
-    sym (length-take f.rules f.rule_places) ∙ ap rules_seen st.told ∙ places_length rule_size st.problem.rules _ ∙ sym (ap (λ (M : Loaded). M.rules) st.takes)
+    ap rules_seen st.told ∙ places_length rule_size st.problem.rules _ ∙ sym (ap (λ (M : Loaded). M.rules) st.takes)

@@ -2,9 +2,6 @@
 ghost use Rattle.std.specs.Prelude.{◌≡◌, ◌<◌, ◌==◌};
 ghost use Rattle.machine.specs.Shift as shift;
 ghost use Rattle.machine.specs.Shift.{lowest, only_if, acts};
-ghost use Rattle.machine.specs.Loaded.{Loaded};
-ghost use Rattle.rows.specs.Layout.{Raw};
-ghost use Rattle.rows.specs.Standing.{Stands};
 ghost use Rattle.rows.specs.Walks.{shown_effect};
 ghost use Rattle.searching.specs.Always.{Always};
 ghost use Rattle.searching.specs.Searches.{link_at, rule_at};
@@ -12,7 +9,6 @@ ghost use Rattle.searching.specs.Tasks.{op_of, shown_task};
 
 use crate::Task;
 use crate::search::{Search, lowest};
-use problems::Found;
 use rows::checking::Effect;
 
 // The task of a check that finds `what`, if it merges or fills.
@@ -23,13 +19,6 @@ fn acts(what: Effect, task: Task) -> Option<Task>
         Effect::Merges(..) | Effect::Fills(..) => Some(task),
         Effect::Closed | Effect::Stuck => None,
     }
-}
-
-// How many rules the problem has.
-fn rules_in(found: &Found) -> u32
-    ensures { (L : Loaded) (r : Raw) → Stands L r found.now → result ≡ L.rules }
-{
-    found.rules.min(found.rule_places.len()) as u32
 }
 
 impl Search<'_> {
@@ -77,7 +66,7 @@ impl Search<'_> {
         if !self.rows.lives(e) {
             return None;
         }
-        lowest(rules_in(&self.load.found), |i| self.rule_at(e, i))
+        lowest(self.load.found.rules.len() as u32, |i| self.rule_at(e, i))
     }
 
     // The first check of a rule that acts.

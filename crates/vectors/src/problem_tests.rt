@@ -48,7 +48,7 @@ fn outline(words: &[u32]) -> Option<[usize; 8]> {
         kinds.1,
         target.links,
         target.place,
-        found.rules,
+        found.rules.len(),
         found.maps,
     ])
 }

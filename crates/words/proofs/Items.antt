@@ -1,5 +1,5 @@
 -- Items, read one by one.
-use Rattle.std.proofs.Common.{◌≡◌, ℕ, zero, suc, ◌+◌, ◌-◌, ◌<◌, ◌≤◌, Bool, true, false, cond, ltb, List, [], ◌∷◌, ◌++◌, length, get_or, take, set, Ok, Err, Result, sym, refl, ap, ◌∙◌, append_assoc, append-nil, add-zero, add_assoc, arith}
+use Rattle.std.proofs.Common.{◌≡◌, ℕ, zero, suc, ◌+◌, ◌-◌, ◌<◌, ◌≤◌, Bool, true, false, cond, ltb, List, [], ◌∷◌, ◌++◌, length, get_or, take, set, Ok, Err, Result, sym, refl, ap, ◌∙◌, append_assoc, append-nil, add-zero, add_assoc, arith, length-append}
 use Rattle.std.proofs.lemmas.List.{take_more_set}
 use Rattle.std.proofs.lemmas.Bool.Decides.{nat_tests}
 use Rattle.words.specs.declared.faults.SchemaFault.{SchemaFault}
@@ -82,6 +82,14 @@ module _ {X : Type 0} (size : X → ℕ) (more : ℕ → ℕ → Bool) (f : ℕ 
       ap (λ qs. prepended qs (outlined size next (items size more f (n - (c + 1)) next))) (take_more_set ps c at l)
       ∙ prepended_twice (take c ps) (at ∷ []) (outlined size next (items size more f (n - (c + 1)) next))
       ∙ ap (prepended (take c ps)) (sym (items_more n c at next s h b))
+
+  -- one more place is kept behind those that there are
+  pub items_push : (n at next : ℕ) (ps : List ℕ) → more (n - length ps) at ≡ true → length ps < n → behind size at (f (n - length ps) at) ≡ Ok next
+      → prepended (ps ++ at ∷ []) (outlined size next (items size more f (n - length (ps ++ at ∷ [])) next)) ≡ prepended ps (outlined size at (items size more f (n - length ps) at))
+  items_push n at next ps s h b =
+      ap (λ k. prepended (ps ++ at ∷ []) (outlined size next (items size more f (n - k) next))) (length-append ps (at ∷ []))
+      ∙ prepended_twice ps (at ∷ []) (outlined size next (items size more f (n - (length ps + 1)) next))
+      ∙ ap (prepended ps) (sym (items_more n (length ps) at next s h b))
 
   pub items_zero : (at : ℕ) (xs : List X) → items size more f zero at ≡ Ok xs → xs ≡ []
   unfolding items

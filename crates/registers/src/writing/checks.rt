@@ -69,11 +69,9 @@ fn links_size<R: Register>(register: &R) -> usize
     ensures words { result ≡ length (links_words (R.meaning register.now) (R.meaning register.now).links) }
     ensures fits { result ≤ 274877906944 }
 {
-    let mut total = 0;
-    for link in 0..register.links() {
-        total += link_size(register, link);
-    }
-    total
+    (0..register.links())
+        .map(|link| link_size(register, link))
+        .sum()
 }
 
 // How many words a register takes.

@@ -5,6 +5,7 @@ ghost use Rattle.table.specs.Promises.{KeepsPromise};
 ghost use Rattle.table.specs.Tabled.{view_of, origin_of};
 
 use crate::table::Table;
+use bounded::Bounded;
 use loading::load;
 use machine::answers::{LoadFault, Outcome};
 use problems::{Found, Schema};
@@ -22,10 +23,9 @@ fn nothing() -> Found {
     Found {
         source: schema,
         target: schema,
-        rules: 0,
-        rule_places: [0; 128],
+        rules: Bounded::new(0),
         maps: 0,
-        map_places: [0; 64],
+        link_maps: Bounded::new(0),
     }
 }
 
