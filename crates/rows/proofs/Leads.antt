@@ -1,5 +1,7 @@
 -- Where the source's links lead, by the words of a table.
 use Rattle.std.proofs.Common.{◌≡◌, ℕ, ◌+◌, ◌<◌, Bool, true, false, ◌&&◌, ltb, List, length, get_or, Some, None, sym, refl, ap, ◌∙◌, arith}
+use Rattle.std.proofs.Math.Bridge.{le_prop}
+use Rattle.std.proofs.Math.Logic.{∥∥₁_elim}
 use Rattle.std.proofs.lemmas.Bool.{lt-ltb, and_parts, ltb-true}
 use Rattle.std.proofs.lemmas.Bool.Decides.{nat_tests}
 use Rattle.problems.specs.declared.Found.{Found}
@@ -9,8 +11,8 @@ use Rattle.machine.specs.State.{State, landing}
 use Rattle.machine.specs.Checking.{link_effect}
 use Rattle.rows.specs.declared.paths.Lead.{Lead}
 use Rattle.rows.specs.Layout.{Raw, inside}
-use Rattle.rows.specs.Standing.{Holds, led_effect, lead_of}
-use Rattle.rows.proofs.Outline.{told_some, told_none, source_links_are, source_few, ends_some}
+use Rattle.rows.specs.Standing.{Holds, Holding, led_effect, lead_of}
+use Rattle.rows.proofs.Outline.{told_some, told_none, source_links_are, source_few, ends_none, ends_some}
 
 -- where there is such a link and record, and where not
 module _ (L : Loaded) (i q : ℕ) where
@@ -56,10 +58,10 @@ module _ (L : Loaded) (r : Raw) (f : Found) (leads : List ℕ) (x : Holds L r f 
       is : (i < L.source_links) × (q < L.count (L.source_from i))
       is = there_is L i q (sym tested ∙ yes)
 
-      pub lead_link : i < 64
+      lead_link : i < 64
       lead_link = omega (arith, ends.0, source_links_are L r f x.stands, source_few L r f x.stands)
 
-      pub lead_in : get_or leads i 0 + q < length r.ws
+      lead_in : get_or leads i 0 + q < length r.ws
       lead_in = (x.led i q is.0 is.1).0
 
       pub lead_is : Some (record { from = e.0; q = q; to = e.1; led = get_or r.ws (get_or leads i 0 + q) 0 }) ≡ lead_of L i q
@@ -67,3 +69,8 @@ module _ (L : Loaded) (r : Raw) (f : Found) (leads : List ℕ) (x : Holds L r f 
           let z : led_there L i q ≡ true = sym tested ∙ yes in
           let w = (x.led i q is.0 is.1).1 in
           rw z (λ j. Some (record { from = (ends.1 j).0; q = q; to = (ends.1 j).1; led = sym w j }))
+
+-- the place of the lead, whatever the words hold
+module _ (r : Raw) (f : Found) (leads : List ℕ) (x : ∥ Holding r f leads ∥₁) (i q : ℕ) (e : ℕ × ℕ) (p : Some e ≡ ends_of f.source r.ws i) (b : Bool) (t : b ≡ inside r.shape r.given (landing e.0 q)) (yes : b ≡ true) where
+  pub lead_place : (i < 64) × (get_or leads i 0 + q < length r.ws)
+  lead_place = (∥∥₁_elim x le_prop (λ h. lead_link h.0 r f leads h.1 i q e p b t yes), ∥∥₁_elim x le_prop (λ h. lead_in h.0 r f leads h.1 i q e p b t yes))

@@ -43,7 +43,7 @@ impl Rows<'_> {
 
     // The record `q` that the source link `i` leaves, and where it leads it, if there is such a link and record.
     pub fn lead(&self, load: &Load, i: u32, q: u32) -> Option<Lead>
-        requires { Holding (raw self.now) load.now.found load.now.leads }
+        requires { ∥ Holding (raw self.now) load.now.found load.now.leads ∥₁ }
         ensures { (L : Loaded) → Holds L (raw self.now) load.now.found load.now.leads → result ≡ lead_of L i q }
     {
         let (from, to) = load.found.source.ends(self.words, i)?;

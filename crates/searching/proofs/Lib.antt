@@ -1,4 +1,3 @@
 pub mod Lowest
-pub mod Nexts
 pub mod Records
 pub mod Rules

@@ -1,2 +1,3 @@
+pub mod Always
 pub mod Searches
 pub mod Tasks

@@ -1,17 +1,8 @@
 -- The tasks of the code, as calls of the machine.
-use Rattle.std.specs.Prelude.{ℕ, List, Some, None, Option}
-use Rattle.problems.specs.declared.Found.{Found}
-use Rattle.machine.specs.Loaded.{Loaded}
-use Rattle.machine.specs.State.{State}
+use Rattle.std.specs.Prelude.{Some, None, Option}
 use Rattle.machine.specs.Calls.{Op, land, define, check_rule, check_link, settle, sweep}
-use Rattle.rows.specs.Layout.{Raw, shown}
-use Rattle.rows.specs.Standing.{Holds}
 use Rattle.searching.specs.declared.Task.{Task}
 use Rattle.searching.specs.declared.Task.TheVariants.{Settle, Link, Rule, Land, Define, Sweep}
-
--- what holds of the state that the rows show, whatever was loaded
-abbrev pub Always : Raw → Found → List ℕ → (Loaded → State → Type 0) → Type 0
-Always r f leads P = (L : Loaded) → Holds L r f leads → P L (shown r)
 
 abbrev pub op_of : Task → Op
 op_of Settle = settle

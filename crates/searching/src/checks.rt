@@ -1,14 +1,14 @@
 // The searches for a check that merges or fills: of a source link at a record, and of a rule at an entry.
 ghost use Rattle.std.specs.Prelude.{◌≡◌, ◌<◌, ◌==◌};
+ghost use Rattle.machine.specs.Shift as shift;
 ghost use Rattle.machine.specs.Shift.{lowest, only_if, acts};
 ghost use Rattle.rows.specs.Walks.{shown_effect};
+ghost use Rattle.searching.specs.Always.{Always};
 ghost use Rattle.searching.specs.Searches.{link_at, rule_at};
 ghost use Rattle.searching.specs.Tasks.{op_of, shown_task};
 
 use crate::Task;
 use crate::search::{Search, lowest};
-use problems::Found;
-use rows::Rows;
 use rows::checking::Effect;
 
 // The task of a check that finds `what`, if it merges or fills.
@@ -21,101 +21,58 @@ fn acts(what: Effect, task: Task) -> Option<Task>
     }
 }
 
-// The records where a source link acts.
-#[derive(Clone, Copy)]
-pub struct Records {
-    link: u32,
-}
-
-impl Search for Records {
-    ghost within = { λ t L s. t.link < L.source_links };
-
-    ghost bound = { λ t L s. L.count (L.source_from t.link) };
-
-    ghost sought = { λ t L s. link_at L s t.link };
-
-    fn size(&self, rows: &Rows, found: &Found, _leads: &[usize; 64]) -> u32 {
-        let (from, _) = rows.source_ends(found, self.link);
-        rows.source.counts[from as usize]
+impl Search<'_> {
+    // The check of the source link `i` at the record `q`, if it acts.
+    fn link_at(&self, i: u32, q: u32) -> Option<Task>
+        ensures { Always self.now (λ L s. i < L.source_links → q < L.count (L.source_from i) → shown_task result ≡ link_at L s i q) }
+    {
+        let Search { rows, load } = self;
+        let lead = rows.lead(load, i, q)?;
+        let path = rows.link_path(&load.found, i as usize);
+        acts(rows.link_effect(lead, path), Task::Link(i, q))
     }
 
-    fn at(&self, rows: &Rows, found: &Found, leads: &[usize; 64], q: u32) -> Option<Task> {
-        let lead = rows.lead(found, leads, self.link, q);
-        let path = rows.link_path(found, self.link as usize);
-        let what = rows.link_effect(lead.from, lead.q, lead.to, lead.led, path);
-        acts(what, Task::Link(self.link, q))
-    }
-}
-
-// The source links, and of each the records where it acts.
-#[derive(Clone, Copy)]
-pub struct Links;
-
-impl Search for Links {
-    ghost within = { λ t L s. Unit {0} };
-
-    ghost bound = { λ t L s. L.source_links };
-
-    ghost sought = { λ t L s i. lowest (L.count (L.source_from i)) (link_at L s i) };
-
-    fn size(&self, _rows: &Rows, found: &Found, _leads: &[usize; 64]) -> u32 {
-        found.source.links as u32
+    // The check of the source link `i` at the first record where it acts.
+    fn link(&self, i: u32) -> Option<Task>
+        ensures { Always self.now (λ L s. i < L.source_links → shown_task result ≡ lowest (L.count (L.source_from i)) (link_at L s i)) }
+    {
+        let (from, _) = self.rows.source_ends(&self.load.found, i);
+        lowest(self.rows.source.kind(from).records, |q| self.link_at(i, q))
     }
 
-    fn at(&self, rows: &Rows, found: &Found, leads: &[usize; 64], link: u32) -> Option<Task> {
-        lowest(&Records { link }, rows, found, leads)
-    }
-}
-
-// The rules that act at an entry.
-#[derive(Clone, Copy)]
-pub struct Rules {
-    entry: u32,
-}
-
-impl Search for Rules {
-    ghost within = { λ t L s. t.entry < s.given };
-
-    ghost bound = { λ t L s. L.rules };
-
-    ghost sought = { λ t L s. rule_at L s t.entry };
-
-    fn size(&self, _rows: &Rows, found: &Found, _leads: &[usize; 64]) -> u32 {
-        found.rules.len() as u32
+    // The first check of a source link that acts.
+    pub(crate) fn links(&self) -> Option<Task>
+        ensures { Always self.now (λ L s. shown_task result ≡ shift.link_next L s) }
+    {
+        lowest(self.load.found.source.links as u32, |i| self.link(i))
     }
 
-    fn at(&self, rows: &Rows, found: &Found, _leads: &[usize; 64], i: u32) -> Option<Task> {
-        let (first, left, right) = rows.rule(found, i as usize)?;
-        if rows.kind(self.entry) != first {
+    // The check of the rule `i` at the entry `e`, if it acts.
+    fn rule_at(&self, e: u32, i: u32) -> Option<Task>
+        requires { e < self.now.rows.now.given }
+        ensures { Always self.now (λ L s. i < L.rules → shown_task result ≡ rule_at L s e i) }
+    {
+        let (first, left, right) = self.rows.rule(&self.load.found, i as usize)?;
+        if self.rows.kind(e) != first {
             return None;
         }
-        acts(
-            rows.rule_effect(left, right, self.entry),
-            Task::Rule(self.entry, i),
-        )
-    }
-}
-
-// The living entries, and of each the rules that act there.
-#[derive(Clone, Copy)]
-pub struct RuleEntries;
-
-impl Search for RuleEntries {
-    ghost within = { λ t L s. Unit {0} };
-
-    ghost bound = { λ t L s. s.given };
-
-    ghost sought = { λ t L s e. only_if (s.forward e == e) (lowest L.rules (rule_at L s e)) };
-
-    fn size(&self, rows: &Rows, _found: &Found, _leads: &[usize; 64]) -> u32 {
-        rows.given as u32
+        acts(self.rows.rule_effect(left, right, e), Task::Rule(e, i))
     }
 
-    fn at(&self, rows: &Rows, found: &Found, leads: &[usize; 64], entry: u32) -> Option<Task> {
-        if rows.lives(entry) {
-            lowest(&Rules { entry }, rows, found, leads)
-        } else {
-            None
+    // The first check of a rule at `e` that acts, if `e` lives.
+    fn rule(&self, e: u32) -> Option<Task>
+        ensures { Always self.now (λ L s. e < s.given → shown_task result ≡ only_if (s.forward e == e) (lowest L.rules (rule_at L s e))) }
+    {
+        if !self.rows.lives(e) {
+            return None;
         }
+        lowest(self.load.found.rules.len() as u32, |i| self.rule_at(e, i))
+    }
+
+    // The first check of a rule that acts.
+    pub(crate) fn rules(&self) -> Option<Task>
+        ensures { Always self.now (λ L s. shown_task result ≡ shift.rule_next L s) }
+    {
+        lowest(self.rows.given as u32, |e| self.rule(e))
     }
 }

@@ -2,21 +2,19 @@
 #![tactic(auto)]
 
 ghost use Rattle.std.specs.Prelude.{◌≡◌};
+ghost use Rattle.machine.specs.Loaded.{Loaded};
 ghost use Rattle.machine.specs.Shift as shift;
-ghost use Rattle.rows.specs.Layout.{Fits};
-ghost use Rattle.rows.specs.View.{raw};
-ghost use Rattle.rows.specs.Standing.{Holding};
-ghost use Rattle.searching.specs.Tasks.{shown_task, Always};
+ghost use Rattle.rows.specs.View.{raw, view};
+ghost use Rattle.rows.specs.Standing.{Holds, Holding};
+ghost use Rattle.searching.specs.Tasks.{shown_task};
 
-use crate::checks::{Links, RuleEntries};
-use crate::gaps::{CellEntries, Kinds};
-use crate::search::lowest;
-use problems::Found;
+use crate::search::Search;
 use rows::Rows;
+use rows::problem::Load;
 
-pub mod checks;
-pub mod gaps;
-pub mod search;
+mod checks;
+mod gaps;
+mod search;
 
 // What a step does: settle, check a source link at a record or a rule at an entry, land a record of a source kind, define an entry's cell, or sweep.
 #[derive(Clone, Copy)]
@@ -30,22 +28,24 @@ pub enum Task {
 }
 
 // The first of these that there is: to settle; a check of a source link that acts, and of a rule; an empty landing, and an empty cell.
-pub fn next(rows: &Rows, found: &Found, leads: &[usize; 64]) -> Option<Task>
-    requires fits { Fits (raw rows.now) }
-    requires holding { Holding (raw rows.now) found.now leads.now }
-    ensures { Always (raw rows.now) found.now leads.now (λ L s. shown_task result ≡ shift.next L s) }
+#[tactic(auto, unfolding(rows::specs::Layout::waiting_of))]
+pub fn next(rows: &Rows, load: &Load) -> Option<Task>
+    requires { Holding (raw rows.now) load.now.found load.now.leads }
+    ensures { (L : Loaded) → Holds L (raw rows.now) load.now.found load.now.leads → shown_task result ≡ shift.next L (view rows.now) }
 {
     if rows.waits > 0 {
         return Some(Task::Settle);
     }
-    if let Some(task) = lowest(&Links, rows, found, leads) {
+    let search = Search { rows, load };
+    // No `or_else`: of a closure that borrows a value with a lifetime it tells nothing.
+    if let Some(task) = search.links() {
         return Some(task);
     }
-    if let Some(task) = lowest(&RuleEntries, rows, found, leads) {
+    if let Some(task) = search.rules() {
         return Some(task);
     }
-    if let Some(task) = lowest(&Kinds, rows, found, leads) {
+    if let Some(task) = search.landings() {
         return Some(task);
     }
-    lowest(&CellEntries, rows, found, leads)
+    search.cells()
 }

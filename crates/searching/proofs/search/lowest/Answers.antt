@@ -1,19 +1,11 @@
-use Rattle.std.proofs.Common.{ℕ, ◌<◌, subst}
-use Rattle.searching.proofs.Lowest.{lowest_none, lowest_more, lowest_over, lowest_found}
+use Rattle.std.proofs.lemmas.Iterator.{serves_from_Range}
+use Rattle.searching.proofs.Lowest.{lowest_found}
 use Rattle.searching.proofs.search.lowest.Goals as goal
 
-pub loop-i-init : goal.loop-i-init
-loop-i-init g c L h = lowest_none _
-
-pub at-requires : goal.at-requires
-at-requires g c = record { fits = c.requires.fits; holding = c.requires.holding; always = c.requires.always; in_bound = λ L h. subst (λ (n : ℕ). c.loop-i.i < n) (c.size-n.ensures L h) c.loop-i-test.true }
-
-pub loop-i-preserved : goal.loop-i-preserved
-loop-i-preserved g c L h = lowest_more _ c.loop-i.i (c.loop-i.invariant L h) (c.in_default.ensures L h)
-
-pub returns-in-Some : goal.returns-in-Some
-returns-in-Some g c L h =
-    lowest_found _ _ c.loop-i.i (subst (λ (n : ℕ). c.loop-i.i < n) (c.size-n.ensures L h) c.loop-i-test.true) (c.loop-i.invariant L h) _ (c.in-Some.ensures L h)
+pub find_map-requires-clause-callable : goal.find_map-requires-clause-callable
+find_map-requires-clause-callable g c = serves_from_Range (λ x q k. g.met.F.Fn.1.step_stays _ _ _ _ k) (λ x lo hi. c.requires x hi)
 
 pub returns : goal.returns
-returns g c L h = lowest_over _ c.loop-i.i _ _ c.loop-i.auto.i-end c.loop-i-test.false (c.size-n.ensures L h) (c.loop-i.invariant L h)
+returns g c f is =
+    let r = c.find_map.ensures.runs in
+    lowest_found g.F.Fn c.args.at (g.met.F.Fn.1.step_stays c.args.at) c.args.n f (λ i r lt k. is i r lt ((g.met.F.FnMut.1.post_iff _ _ _).1 (_, k))) r.0 r.1 _ r.2

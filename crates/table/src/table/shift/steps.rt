@@ -11,6 +11,7 @@ ghost use Rattle.table.specs.Tabled.{view_of, took, origin_of};
 use super::{Shift, Step};
 use crate::table::Table;
 use machine::answers::Ending;
+use rows::problem::Load;
 use searching::{Task, next};
 
 impl Shift {
@@ -32,7 +33,11 @@ impl Table<'_> {
         requires { self.now.loaded ≡ true }
         ensures { shown_task result ≡ machine.next (took self.now) (view self.now.rows) }
     {
-        next(&self.rows, &self.found, &self.leads)
+        let load = Load {
+            found: self.found,
+            leads: self.leads,
+        };
+        next(&self.rows, &load)
     }
 
     // The task if there is a free number, else to sweep, if some are dead.
