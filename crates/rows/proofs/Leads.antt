@@ -12,7 +12,7 @@ use Rattle.machine.specs.Checking.{link_effect}
 use Rattle.rows.specs.declared.paths.Lead.{Lead}
 use Rattle.rows.specs.Layout.{Raw, inside}
 use Rattle.rows.specs.Standing.{Holds, Holding, led_effect, lead_of}
-use Rattle.rows.proofs.Outline.{told_some, told_none, source_links_are, source_few, ends_none, ends_some}
+use Rattle.rows.proofs.Outline.{told_some, told_none, source_links_are, source_few, ends_some}
 
 -- where there is such a link and record, and where not
 module _ (L : Loaded) (i q : ℕ) where
