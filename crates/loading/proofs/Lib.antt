@@ -1,4 +1,5 @@
 pub mod LoadLists
+pub mod LoadArrays
 pub mod LoadCopies
 pub mod LoadSource
 pub mod LoadWords

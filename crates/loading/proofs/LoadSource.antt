@@ -16,6 +16,7 @@ use Rattle.machine.specs.declared.answers.LoadFault.TheVariants as fault
 use Rattle.machine.specs.Loaded.{Loaded}
 use Rattle.machine.specs.Loading.{sum, source_link, other_shape, source_records, link_strays, needed, capacity_of, taken, with_problem, unless_strays, load_problem, load}
 use Rattle.rows.proofs.Outline.{schema_read, link_in, link_ends}
+use Rattle.rows.specs.Sources.{kinds_of, counts_of, starts_of}
 use Rattle.loading.specs.LoadedWords.{or_no_problem, problem_in, Sourced, leaving}
 use Rattle.loading.specs.Taking.{Planned}
 use Rattle.loading.specs.declared.Loading.{Loading}
@@ -138,10 +139,10 @@ capacity_fits work base links h =
 
 -- all tests are passed
 module _ (work : ℕ) (ws : List ℕ) (m : Meaning) (l : Loading) (t : told (Ok l.found) ≡ outline_of (read ws)) where
-  pub planned : (next : ℕ) → Lawful m → false ≡ other_shape (problem_in ws) m → l.lands ≡ length ws → l.source.kinds ≡ l.found.source.kinds
-      → take l.source.kinds l.source.counts ≡ upto m.count l.source.kinds
-      → take l.source.kinds l.source.starts ≡ upto (λ k. l.lands + sum m.count k) l.source.kinds
-      → next ≡ l.lands + sum m.count l.source.kinds → l.records ≡ next - l.lands → l.records ≤ 4095
+  pub planned : (next : ℕ) → Lawful m → false ≡ other_shape (problem_in ws) m → l.lands ≡ length ws → kinds_of l.source ≡ l.found.source.kinds
+      → counts_of l.source ≡ upto m.count (kinds_of l.source)
+      → starts_of l.source ≡ upto (λ k. l.lands + sum m.count k) (kinds_of l.source)
+      → next ≡ l.lands + sum m.count (kinds_of l.source) → l.records ≡ next - l.lands → l.records ≤ 4095
       → None ≡ lowest (link_strays (problem_in ws) m) (length (problem_in ws).source_links)
       → take l.found.source.links l.leads ≡ upto (λ i. next + sum (leaving (problem_in ws) m.count) i) l.found.source.links
       → l.base ≡ next + sum (leaving (problem_in ws) m.count) l.found.source.links → l.base ≤ work → l.links ≡ l.found.target.links
@@ -149,7 +150,7 @@ module _ (work : ℕ) (ws : List ℕ) (m : Meaning) (l : Loading) (t : told (Ok 
   planned next lawful a lands kinds counts starts n records few o leads base room links capacity =
       let s = sourced ws l.found t in
       let g = targets ws l.found t in
-      let c : l.records ≡ sum m.count l.source.kinds = omega arith in
+      let c : l.records ≡ sum m.count (kinds_of l.source) = omega arith in
       let d : next ≡ l.lands + l.records = omega arith in
       let b : l.base ≡ l.lands + l.records + sum (leaving (problem_in ws) m.count) l.found.source.links = omega arith in
       let w : l.base ≡ length ws + l.records + sum (leaving (problem_in ws) m.count) l.found.source.links = omega arith in

@@ -12,6 +12,7 @@ use Rattle.machine.specs.Promise.{TakenFrom}
 use Rattle.machine.specs.State.{Slot, cell, landing, start}
 use Rattle.machine.specs.Sweeping.{rank}
 use Rattle.machine.proofs.Loads.{taken_from}
+use Rattle.rows.specs.Sources.{kinds_of, counts_of, starts_of}
 use Rattle.rows.specs.Layout.{Raw, Fits, Tidy, inside, spot, count, decode, shown, kind_of, forward_of, waiting_of}
 use Rattle.loading.specs.LoadedWords.{problem_in, problem_of, leaving, lead_words, ends_copied, count_copied, lead_copied, copy_by, copy, PlacedBy, taken_shown}
 use Rattle.loading.specs.Taking.{fresh, Planned, TakenIn}
@@ -95,14 +96,14 @@ module _ (old ws : List ℕ) (m : Meaning) (l : Loading) (p : Planned (length ol
   source : TakenFrom m (taken (problem_in ws) m l.capacity)
   source = taken_from (length old) ws m (taken (problem_in ws) m l.capacity) p.load
 
-  count_kept : (k : ℕ) → k < l.source.kinds → get_or l.source.counts k 0 ≡ m.count k
-  count_kept k h = upto_kept m.count l.source.counts l.source.kinds k p.counts h
+  count_kept : (k : ℕ) → k < kinds_of l.source → get_or (counts_of l.source) k 0 ≡ m.count k
+  count_kept k h = ap (λ (ks : List ℕ). get_or ks k 0) p.counts ∙ upto_at m.count (kinds_of l.source) k 0 h
 
   count_is : (k : ℕ) → count_copied r k ≡ m.count k
   unfolding count_copied
-  count_is k = elim (cases_lt k l.source.kinds) [
-    | inl h ↦ (let e = lt-ltb k l.source.kinds h in rw e (count_kept k h))
-    | inr h ↦ (let e = le-ltb k l.source.kinds h in rw e (sym (p.lawful.unknown_kind k (omega (arith, source.kinds, p.sourced.kinds, p.kinds)))))
+  count_is k = elim (cases_lt k (kinds_of l.source)) [
+    | inl h ↦ (let e = lt-ltb k (kinds_of l.source) h in rw e (count_kept k h))
+    | inr h ↦ (let e = le-ltb k (kinds_of l.source) h in rw e (sym (p.lawful.unknown_kind k (omega (arith, source.kinds, p.sourced.kinds, p.kinds)))))
   ]
 
   ends_is : (i : ℕ) → ends_copied (problem_in ws) i ≡ m.ends i
@@ -143,7 +144,7 @@ module _ (old ws : List ℕ) (m : Meaning) (l : Loading) (p : Planned (length ol
       inr (omega arith, omega (arith, p.base))
 
   -- the table is at its start
-  sums : (n : ℕ) → n ≤ l.source.kinds → sum m.count n ≡ sum (count r.shape) n
+  sums : (n : ℕ) → n ≤ (kinds_of l.source) → sum m.count n ≡ sum (count r.shape) n
   sums n h = sum_same m.count (count r.shape) n (λ i k. sym (count_kept i (omega arith)))
 
   fits : Fits r
@@ -155,8 +156,8 @@ module _ (old ws : List ℕ) (m : Meaning) (l : Loading) (p : Planned (length ol
     narrow = p.narrow;
     lot = p.lot;
     sorts = omega (arith, p.kinds, p.sourced.few_kinds);
-    stacked = λ k h. upto_kept (λ k. l.lands + sum m.count k) l.source.starts l.source.kinds k p.starts h ∙ ap (λ n. l.lands + n) (sums k (omega arith));
-    total = p.records ∙ sums l.source.kinds (omega arith);
+    stacked = λ k h. ap (λ (ks : List ℕ). get_or ks k 0) p.starts ∙ upto_at (λ k. l.lands + sum m.count k) (kinds_of l.source) k 0 h ∙ ap (λ n. l.lands + n) (sums k (omega arith));
+    total = p.records ∙ sums (kinds_of l.source) (omega arith);
   }
 
   held_none : (t : Slot) → inside r.shape 0 t ≡ true → decode (get_or new (spot r.shape t) 0) ≡ None
@@ -164,8 +165,8 @@ module _ (old ws : List ℕ) (m : Meaning) (l : Loading) (p : Planned (length ol
   held_none (landing k q) b =
       let w = inside_true r.shape 0 (landing k q) b in
       let s = fits.stacked k w.0 in
-      let n = sum_more (count r.shape) l.source.kinds k w.0 in
-      let e : get_or l.source.starts k 0 + q ≡ l.lands + (sum (count r.shape) k + q) = omega arith in
+      let n = sum_more (count r.shape) (kinds_of l.source) k w.0 in
+      let e : get_or (starts_of l.source) k 0 + q ≡ l.lands + (sum (count r.shape) k + q) = omega arith in
       ap (λ (i : ℕ). decode (get_or new i 0)) e ∙ ap decode (empty (sum (count r.shape) k + q) (omega (arith, fits.total, w.1)))
 
   starts : shown r ≡ start

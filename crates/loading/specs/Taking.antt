@@ -7,6 +7,7 @@ use Rattle.registers.specs.Writing.{upto}
 use Rattle.machine.specs.declared.answers.LoadFault.{LoadFault}
 use Rattle.machine.specs.Loading.{sum, taken, load}
 use Rattle.machine.specs.State.{start}
+use Rattle.rows.specs.Sources.{kinds_of, counts_of, starts_of}
 use Rattle.rows.specs.Layout.{Shape, Raw, Tidy, Carries, shown}
 use Rattle.loading.specs.LoadedWords.{problem_in, Sourced, leaving, copy, Placed, taken_shown}
 use Rattle.loading.specs.declared.Loading.{Loading}
@@ -14,9 +15,9 @@ use Rattle.loading.specs.declared.Loading.{Loading}
 -- the numbers of a load, and its words with no entry given
 abbrev pub shape_of : Loading → Shape
 shape_of l = record {
-  kinds = l.source.kinds;
-  counts = l.source.counts;
-  starts = l.source.starts;
+  kinds = kinds_of l.source;
+  counts = counts_of l.source;
+  starts = starts_of l.source;
   lands = l.lands;
   records = l.records;
   base = l.base;
@@ -33,12 +34,12 @@ pub record Planned (work : ℕ) (ws : List ℕ) (m : Meaning) (l : Loading) : Ty
   pub sourced : Sourced ws l.found.source
   pub lawful : Lawful m
   pub load : load work ws m ≡ Ok (taken (problem_in ws) m l.capacity)
-  pub kinds : l.source.kinds ≡ l.found.source.kinds
-  pub counts : take l.source.kinds l.source.counts ≡ upto m.count l.source.kinds
-  pub starts : take l.source.kinds l.source.starts ≡ upto (λ k. l.lands + sum m.count k) l.source.kinds
+  pub kinds : kinds_of l.source ≡ l.found.source.kinds
+  pub counts : counts_of l.source ≡ upto m.count (kinds_of l.source)
+  pub starts : starts_of l.source ≡ upto (λ k. l.lands + sum m.count k) (kinds_of l.source)
   pub leads : take l.found.source.links l.leads ≡ upto (λ i. l.lands + l.records + sum (leaving (problem_in ws) m.count) i) l.found.source.links
   pub lands : l.lands ≡ length ws
-  pub records : l.records ≡ sum m.count l.source.kinds
+  pub records : l.records ≡ sum m.count (kinds_of l.source)
   pub lot : l.records < 4096
   pub base : l.base ≡ l.lands + l.records + sum (leaving (problem_in ws) m.count) l.found.source.links
   pub links : l.links ≡ length (problem_in ws).target_links

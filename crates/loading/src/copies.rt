@@ -3,10 +3,9 @@ ghost use Rattle.std.specs.Prelude.{◌≡◌, ◌+◌, ◌≤◌, length};
 ghost use Rattle.registers.specs.Splices.{spliced};
 ghost use Rattle.registers.specs.Writing.{upto, lead};
 ghost use Rattle.machine.specs.Loading.{sum};
-ghost use Rattle.loading.specs.LoadedWords.{problem_in, Sourced, leaving, lead_words};
+ghost use Rattle.loading.specs.LoadedWords.{problem_in, leaving, lead_words};
 
-use crate::checks::leaving;
-use problems::Schema;
+use crate::offer::Offer;
 use registers::register::Register;
 
 // Copies the problem's words to the front.
@@ -14,9 +13,7 @@ pub(crate) fn put_words(out: &mut [u32], problem: &[u32])
     requires { length problem.now ≤ length out.old }
     ensures { out.new ≡ spliced 0 problem.now out.old }
 {
-    for i in 0..problem.len() {
-        out[i] = problem[i];
-    }
+    out[..problem.len()].copy_from_slice(problem);
 }
 
 // Empties n words.
@@ -24,37 +21,30 @@ pub(crate) fn clear(out: &mut [u32], at: usize, n: usize)
     requires { at + n ≤ length out.old }
     ensures { out.new ≡ spliced at (upto (λ i. 0) n) out.old }
 {
-    for i in 0..n {
-        out[at + i] = 0;
+    out[at..at + n].fill(0);
+}
+
+// Puts where a link leads from each of the first records.
+fn put_link<R: Register>(out: &mut [u32], source: &R, link: u32)
+    requires { length out.old ≤ 4294967296 }
+    ensures { out.new ≡ upto (lead (R.meaning source.now) link) (length out.old) }
+{
+    for (r, word) in out.iter_mut().enumerate() {
+        *word = source.follow(link, r as u32).unwrap_or(0);
     }
 }
 
-// Puts where a link leads from each of the first n records.
-fn put_link<R: Register>(out: &mut [u32], at: usize, source: &R, link: u32, n: u32)
-    requires { at + n ≤ length out.old }
-    ensures { out.new ≡ spliced at (upto (lead (R.meaning source.now) link) n) out.old }
-{
-    for r in 0..n {
-        out[at + r as usize] = source.follow(link, r).unwrap_or(0);
-    }
-}
-
-// Puts where the source's links lead.
-pub(crate) fn put_links<R: Register>(
-    out: &mut [u32],
-    at: usize,
-    problem: &[u32],
-    schema: Schema,
-    source: &R,
-)
-    requires sourced { Sourced problem.now schema }
-    requires links_in_bounds { at + sum (leaving (problem_in problem.now) (R.meaning source.now).count) schema.links ≤ length out.old }
-    ensures { out.new ≡ spliced at (lead_words (problem_in problem.now) (R.meaning source.now) schema.links) out.old }
-{
-    let mut next = at;
-    for link in 0..schema.links {
-        let n = leaving(problem, schema, source, link as u32);
-        put_link(out, next, source, link as u32, n);
-        next += n as usize;
+impl<R: Register> Offer<'_, '_, R> {
+    // Puts where the source's links lead.
+    pub fn put_links(&self, out: &mut [u32], at: usize)
+        requires { at + sum (leaving (problem_in self.now.problem.now) (R.meaning self.now.source.now).count) self.now.schema.links ≤ length out.old }
+        ensures { out.new ≡ spliced at (lead_words (problem_in self.now.problem.now) (R.meaning self.now.source.now) self.now.schema.links) out.old }
+    {
+        let mut next = at;
+        for link in 0..self.schema.links as u32 {
+            let n = self.leaving(link) as usize;
+            put_link(&mut out[next..next + n], self.source, link);
+            next += n;
+        }
     }
 }

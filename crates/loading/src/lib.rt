@@ -4,16 +4,16 @@
 ghost use Rattle.std.specs.Prelude.{◌≡◌, ◌+◌, ◌/◌, ◌≤◌, min};
 ghost use Rattle.loading.specs.Taking.{Plans, Takes};
 
-use crate::checks::{lowest_stray, other_shape};
-use crate::copies::{clear, put_links, put_words};
-use crate::places::{place_leads, stack};
+use crate::copies::{clear, put_words};
+use crate::offer::Offer;
+use crate::places::{pile, stack};
 use machine::answers::LoadFault;
 use problems::{Found, read_problem};
 use registers::register::Register;
 use rows::Source;
 
-mod checks;
 mod copies;
+mod offer;
 mod places;
 
 // What a load found and where its parts lie: the problem's outline, the source's kinds, and the place of each source link's first lead.
@@ -34,8 +34,7 @@ fn entries(room: usize, links: usize) -> usize
     requires { links ≤ 64 }
     ensures { result ≡ min 65535 (room / (links + 3)) }
 {
-    let rows = room / (links + 3);
-    if rows < 65535 { rows } else { 65535 }
+    (room / (links + 3)).min(65535)
 }
 
 // The tests in their order; nothing is written.
@@ -44,34 +43,38 @@ fn plan<R: Register>(work: usize, problem: &[u32], source: &R) -> Result<Loading
 {
     let found = read_problem(problem)?;
     let schema = found.source;
-    if other_shape(problem, schema, source) {
+    let offer = Offer {
+        problem,
+        schema,
+        source,
+    };
+    if offer.other_shape() {
         return Err(LoadFault::Shape);
     }
     let lands = problem.len();
-    let stacked = stack(source, schema.kinds, lands);
-    let records = stacked.next - lands;
+    let counts = offer.counts();
+    let (kinds, next) = stack(&counts[..schema.kinds as usize], lands);
+    let records = next - lands;
     if records > 4095 {
         return Err(LoadFault::Large);
     }
-    if let Some(link) = lowest_stray(problem, schema, source) {
+    if let Some(link) = offer.lowest_stray() {
         return Err(LoadFault::Leads(link));
     }
-    let placed = place_leads(problem, schema, source, stacked.next);
-    let base = placed.next;
-    if base > work {
+    let (leads, base) = pile(&offer.leavings()[..schema.links], next);
+    let Some(room) = work.checked_sub(base) else {
         return Err(LoadFault::Memory);
-    }
+    };
     let links = found.target.links;
-    let leads = placed.places;
     Ok(Loading {
         found,
-        source: stacked.source,
+        source: kinds,
         leads,
         lands,
         records,
         base,
         links,
-        capacity: entries(work - base, links),
+        capacity: entries(room, links),
     })
 }
 
@@ -86,12 +89,11 @@ pub fn load<R: Register>(
     let loading = plan(words.len(), problem, source)?;
     put_words(words, problem);
     clear(words, loading.lands, loading.records);
-    put_links(
-        words,
-        loading.lands + loading.records,
+    let offer = Offer {
         problem,
-        loading.found.source,
+        schema: loading.found.source,
         source,
-    );
+    };
+    offer.put_links(words, loading.lands + loading.records);
     Ok(loading)
 }

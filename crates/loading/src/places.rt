@@ -1,70 +1,51 @@
 // Where the parts of a load lie: its landings kind by kind, then the source's leads link by link.
-ghost use Rattle.std.specs.Prelude.{◌≡◌, ◌+◌, ◌≤◌, take};
+ghost use Rattle.std.specs.Prelude.{◌≡◌, ◌+◌, ◌≤◌, length, take, slice_index};
 ghost use Rattle.registers.specs.Writing.{upto};
 ghost use Rattle.machine.specs.Loading.{sum};
-ghost use Rattle.loading.specs.LoadedWords.{problem_in, Sourced, leaving};
+ghost use Rattle.rows.specs.Sources.{kinds_of, counts_of, starts_of};
 
-use crate::checks::leaving;
-use problems::Schema;
-use registers::register::Register;
-use rows::Source;
+use bounded::Bounded;
+use rows::{Source, SourceKind};
 
-// The source's kinds, and the place behind their landings.
-#[derive(Clone, Copy)]
-pub struct Stacked {
-    pub source: Source,
-    pub next: usize,
-}
-
-// Counts the source's kinds, and stacks their landings.
-pub(crate) fn stack<R: Register>(source: &R, kinds: u32, lands: usize) -> Stacked
-    requires { (kinds ≤ 32) × (lands ≤ 268435456) }
-    ensures same { result.source.kinds ≡ kinds }
-    ensures counts { take result.source.kinds result.source.counts ≡ upto (R.meaning source.now).count result.source.kinds }
-    ensures starts { take result.source.kinds result.source.starts ≡ upto (λ k. lands + sum (R.meaning source.now).count k) result.source.kinds }
-    ensures behind { result.next ≡ lands + sum (R.meaning source.now).count result.source.kinds }
+// Where parts of these sizes begin that stand one behind another from a place on, and the place behind the last.
+pub(crate) fn pile<const N: usize>(sizes: &[u32], place: usize) -> ([usize; N], usize)
+    requires few { length sizes.now ≤ N }
+    requires narrow { N ≤ 64 }
+    requires low { place ≤ 268439551 }
+    ensures starts { take (length sizes.now) result.0 ≡ upto (λ i. place + sum (slice_index sizes.now) i) (length sizes.now) }
+    ensures behind { result.1 ≡ place + sum (slice_index sizes.now) (length sizes.now) }
 {
-    let mut counts = [0; 32];
-    let mut starts = [0; 32];
-    let mut next = lands;
-    for kind in 0..kinds {
-        let n = source.count(kind);
-        counts[kind as usize] = n;
-        starts[kind as usize] = next;
-        next += n as usize;
+    let mut starts = [0; N];
+    let mut next = place;
+    // Written by the index: a `zip` with `iter_mut` leaves unproved what the array holds after the loop.
+    for (i, size) in sizes.iter().enumerate() {
+        starts[i] = next;
+        next += *size as usize;
     }
-    Stacked {
-        source: Source {
-            kinds: kinds as usize,
-            counts,
-            starts,
-        },
-        next,
-    }
+    (starts, next)
 }
 
-// The place of each link's first lead, and the place behind the last.
-#[derive(Clone, Copy)]
-pub struct LeadPlaces {
-    pub places: [usize; 64],
-    pub next: usize,
-}
-
-pub(crate) fn place_leads<R: Register>(
-    problem: &[u32],
-    schema: Schema,
-    source: &R,
-    start: usize,
-) -> LeadPlaces
-    requires { (Sourced problem.now schema) × (start ≤ 268439551) }
-    ensures places { take schema.links result.places ≡ upto (λ i. start + sum (leaving (problem_in problem.now) (R.meaning source.now).count) i) schema.links }
-    ensures behind { result.next ≡ start + sum (leaving (problem_in problem.now) (R.meaning source.now).count) schema.links }
+// The kinds of a source that have these numbers of records, their landings one behind another from a place on, and the place behind the last.
+pub(crate) fn stack(counts: &[u32], place: usize) -> (Source, usize)
+    requires few { length counts.now ≤ 32 }
+    requires low { place ≤ 268439551 }
+    ensures kinds { kinds_of result.0 ≡ length counts.now }
+    ensures counts { counts_of result.0 ≡ counts.now }
+    ensures starts { starts_of result.0 ≡ upto (λ k. place + sum (slice_index counts.now) k) (length counts.now) }
+    ensures behind { result.1 ≡ place + sum (slice_index counts.now) (length counts.now) }
 {
-    let mut places = [0; 64];
-    let mut next = start;
-    for link in 0..schema.links {
-        places[link] = next;
-        next += leaving(problem, schema, source, link as u32) as usize;
+    let (starts, next) = pile::<32>(counts, place);
+    let none = SourceKind {
+        records: 0,
+        start: 0,
+    };
+    let mut kinds = Bounded::new(none);
+    for (k, records) in counts.iter().enumerate() {
+        let start = starts[k];
+        kinds.push(SourceKind {
+            records: *records,
+            start,
+        });
     }
-    LeadPlaces { places, next }
+    (Source { kinds }, next)
 }

@@ -21,7 +21,7 @@ put_cases t u o h = go (same u t) refl
   where
     go : (b : Bool) → same u t ≡ b → ((u ≡ t) × (put t o h u ≡ o)) ⊎ ((u ≡ t → ⊥) × (put t o h u ≡ h u))
     go true e = inl (same_true u t e, cc)
-    go false e = inr ((λ q. let z : ◌≡◌ {A = ℕ} 0 1 = cc (same_refl u) in omega arith), cc)
+    go false e = inr ((λ q. cc (same_refl u)), cc)
 
 -- living ends
 module _ (f : ℕ → ℕ) where

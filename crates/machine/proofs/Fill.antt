@@ -13,7 +13,7 @@ pub some_same : (a b : ℕ) (o : Option ℕ) → o ≡ Some a → o ≡ Some b �
 some_same a b o p q = cc
 
 pub some_none : (a : ℕ) (o : Option ℕ) → o ≡ Some a → o ≡ None → ⊥
-some_none a o p q = let z : ◌≡◌ {A = ℕ} 0 1 = cc in omega arith
+some_none a o p q = cc
 
 -- a slot after a put: it has the new content, or it is another one
 pub put_held : (t : Slot) (o : Option ℕ) (h : Slot → Option ℕ) (u : Slot) (w : ℕ) → put t o h u ≡ Some w → ((u ≡ t) × (o ≡ Some w)) ⊎ ((u ≡ t → ⊥) × (h u ≡ Some w))
@@ -39,7 +39,7 @@ module _ (L : Loaded) (s : State) (t : Slot) where
     fresh = ok.fresh;
     dead = ok.dead;
     used = λ u w e. elim (put_held t None s.held u w e) [
-      | inl q ↦ absurd (some_none w None q.1 refl)
+      | inl q ↦ absurd (cc q.1)
       | inr q ↦ (hold_in_use None w (ok.used u w q.1).0, hold_owner None u (ok.used u w q.1).1)
     ];
   }
@@ -49,7 +49,7 @@ module _ (L : Loaded) (s : State) (t : Slot) where
     counted = d.counted;
     forwards = d.forwards;
     agrees = λ u w e. elim (put_held t None s.held u w e) [
-      | inl q ↦ absurd (some_none w None q.1 refl)
+      | inl q ↦ absurd (cc q.1)
       | inr q ↦ d.agrees u w q.1
     ];
   }
@@ -77,7 +77,7 @@ module _ (L : Loaded) (s : State) (t : Slot) where
     }
 
     pub fill_closed : s.held t ≡ None → (Q : ℕ → Type 0) → Closed Q (hold t (Some a) s) → Closed Q s
-    fill_closed none Q c = record { goes = c.goes; comes = c.comes; fits = λ u w e b. c.fits u w (put_there t (Some a) s.held u (λ q. some_none w (s.held t) (sym (ap s.held q) ∙ e) none) ∙ e) b }
+    fill_closed none Q c = record { goes = c.goes; comes = c.comes; fits = λ u w e b. c.fits u w (put_there t (Some a) s.held u (λ q. cc) ∙ e) b }
 
     pub fill_fits : (Q : ℕ → Type 0) → Closed Q (hold t (Some a) s) → Before Q t → Q a
     fill_fits Q c b = c.fits t a (put_here t (Some a) s.held) b
@@ -112,7 +112,7 @@ module _ (L : Loaded) (s : State) (t : Slot) where
     pub born_reached : ((e : ℕ) → e < s.given → Reach s e) → (e : ℕ) → e < suc s.given → Reach (born k t s) e
     born_reached all e h =
         let c = closed_reach (born k t s) in
-        let d : Closed (Reach (born k t s)) s = record { goes = c.goes; comes = c.comes; fits = λ u w q b. c.fits u w (put_there t (Some s.given) s.held u (λ p. some_none w (s.held t) (sym (ap s.held p) ∙ q) none) ∙ q) b } in
+        let d : Closed (Reach (born k t s)) s = record { goes = c.goes; comes = c.comes; fits = λ u w q b. c.fits u w (put_there t (Some s.given) s.held u (λ p. cc) ∙ q) b } in
         let old : (x : ℕ) → x < s.given → Reach (born k t s) x = λ x b. closed_all d (all x b) in
         elim (cases_eq e s.given) [
           | inl q ↦ subst (Reach (born k t s)) (sym q) (c.fits t s.given (put_here t (Some s.given) s.held) (before_reached t ot old))

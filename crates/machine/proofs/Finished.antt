@@ -10,15 +10,11 @@ use Rattle.machine.specs.Readings.{Accepted, Joins}
 use Rattle.machine.specs.Sound.{Mem, InUse, Sound, Kinds, content_kind}
 use Rattle.machine.specs.Shift.{or_else, lowest, acts, only_if, link_next, rule_next, land_next, define_next, next, calls}
 use Rattle.machine.specs.Complete.{Complete, CompleteWhenDone, Keeps}
-use Rattle.machine.proofs.Fill.{some_none}
 use Rattle.machine.proofs.Runs.{none_waits, calls_good, calls_kinds, start_good, start_kinds}
-
-absurd_op : (o : Op) (x : Option Op) → x ≡ Some o → x ≡ None → ⊥
-absurd_op o x p q = let z : ◌≡◌ {A = ℕ} 0 1 = cc in omega arith
 
 or_none : (a b : Option Op) → or_else a b ≡ None → (a ≡ None) × (b ≡ None)
 or_none None b e = (refl, e)
-or_none (Some o) b e = absurd (absurd_op o (Some o) refl e)
+or_none (Some o) b e = absurd (cc)
 
 none_or : (a b : Option Op) → a ≡ None → b ≡ None → or_else a b ≡ None
 none_or a b p q = cc
@@ -44,11 +40,11 @@ none_only true o h = h refl
 none_only false o h = refl
 
 full_slot : (x : Option ℕ) (o : Op) → only_if (not (filled x)) (Some o) ≡ None → (w : ℕ) × (x ≡ Some w)
-full_slot None o e = absurd (absurd_op o (Some o) refl e)
+full_slot None o e = absurd (cc)
 full_slot (Some w) o e = (w, refl)
 
 slot_full : (x : Option ℕ) (b : Bool) (w : ℕ) (o : Op) → x ≡ Some w → only_if (b && not (filled x)) (Some o) ≡ None
-slot_full None b w o e = absurd (some_none w None (sym (sym e)) refl)
+slot_full None b w o e = absurd (cc)
 slot_full (Some y) true w o e = refl
 slot_full (Some y) false w o e = refl
 
@@ -61,7 +57,7 @@ quiet_closed (ended a) (ended b) o u v = go (eqb a b)
   where
     go : (t : Bool) → acts (cond t closed (merges a b)) o ≡ None → cond t closed (merges a b) ≡ closed
     go true e = refl
-    go false e = absurd (absurd_op o (Some o) refl e)
+    go false e = absurd (cc)
 quiet_closed (ended a) (stopped t n) o u v = absurd v
 quiet_closed (stopped t n) q o u v = absurd u
 
@@ -90,7 +86,7 @@ module _ (L : Loaded) (acc : Accepted L) (s : State) (ok : Sound L s) (ks : Kind
   done_complete e = go (waits s.waiting) refl e
     where
       go : (b : Bool) → waits s.waiting ≡ b → cond b (Some settle) (or_else (link_next L s) (or_else (rule_next L s) (or_else (land_next L s) (define_next L s)))) ≡ None → Complete L s
-      go true w h = absurd (absurd_op settle (Some settle) refl h)
+      go true w h = absurd (cc)
       go false w h =
           let a = or_none (link_next L s) (or_else (rule_next L s) (or_else (land_next L s) (define_next L s))) h in
           let b = or_none (rule_next L s) (or_else (land_next L s) (define_next L s)) a.1 in
@@ -134,7 +130,7 @@ module _ (L : Loaded) (acc : Accepted L) (s : State) (ok : Sound L s) (ks : Kind
       absurd (filled_not (s.held (cell e l)) a.0 a.1 p.1)))))))))
     where
       filled_not : (x : Option ℕ) (w : ℕ) → x ≡ Some w → not (filled x) ≡ true → ⊥
-      filled_not None w e h = some_none w None e refl
+      filled_not None w e h = cc
       filled_not (Some y) w e h = Rattle.std.proofs.lemmas.Bool.false≢true h
 
 pub complete_when_done : CompleteWhenDone
@@ -148,12 +144,12 @@ sides_closed (ended a) (ended b) z = go (eqb a b) refl z
   where
     go : (t : Bool) → eqb a b ≡ t → cond t closed (merges a b) ≡ closed → (c : ℕ) × (ended a ≡ ended c) × (ended b ≡ ended c)
     go true q e = (a, refl, ap ended (sym (eqb-true a b q)))
-    go false q e = absurd (let z : ◌≡◌ {A = ℕ} 0 1 = cc in omega (arith, z))
-sides_closed (ended a) (stopped t zero) e = absurd (let z : ◌≡◌ {A = ℕ} 0 1 = cc in omega (arith, z))
-sides_closed (ended a) (stopped t (suc n)) e = absurd (let z : ◌≡◌ {A = ℕ} 0 1 = cc in omega (arith, z))
-sides_closed (stopped t zero) (ended b) e = absurd (let z : ◌≡◌ {A = ℕ} 0 1 = cc in omega (arith, z))
-sides_closed (stopped t (suc n)) (ended b) e = absurd (let z : ◌≡◌ {A = ℕ} 0 1 = cc in omega (arith, z))
-sides_closed (stopped t n) (stopped r m) e = absurd (let z : ◌≡◌ {A = ℕ} 0 1 = cc in omega (arith, z))
+    go false q e = absurd (cc)
+sides_closed (ended a) (stopped t zero) e = absurd (cc)
+sides_closed (ended a) (stopped t (suc n)) e = absurd (cc)
+sides_closed (stopped t zero) (ended b) e = absurd (cc)
+sides_closed (stopped t (suc n)) (ended b) e = absurd (cc)
+sides_closed (stopped t n) (stopped r m) e = absurd (cc)
 
 walk_in_some : (h : Slot → Option ℕ) (t : Slot) (ls : List ℕ) (x : ℕ) → h t ≡ Some x → walk_in h t ls ≡ walk h x ls
 walk_in_some h t ls x e = ap (λ o. Rattle.machine.specs.State.on o (stopped t (length ls)) (λ w. walk h w ls)) e

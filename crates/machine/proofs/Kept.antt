@@ -4,7 +4,7 @@ use Rattle.machine.specs.State.{Slot, cell, landing, State, put, hold, born}
 use Rattle.machine.specs.Merging.{end, die, merge}
 use Rattle.machine.proofs.Base.{chase_fix, chase_keeps, chase_lives, end_forward}
 use Rattle.machine.proofs.Merge.{turned_cases, meet_cases}
-use Rattle.machine.proofs.Fill.{some_none, put_there}
+use Rattle.machine.proofs.Fill.{put_there}
 
 -- a cell in its living place, at the living end of the renamed entry; a landing is in its place
 abbrev pub place : State → (ℕ → ℕ) → Slot → Slot
@@ -93,7 +93,7 @@ module _ (s : State) (lower : (x : ℕ) → s.forward x ≤ x) where
 -- filling an empty slot, with an old entry or a new one
 module _ (s : State) (t : Slot) (none : s.held t ≡ None) where
   put_kept : (o : Option ℕ) (u : Slot) (w : ℕ) → s.held u ≡ Some w → put t o s.held u ≡ Some w
-  put_kept o u w e = put_there t o s.held u (λ q. some_none w (s.held t) (sym (ap s.held q) ∙ e) none) ∙ e
+  put_kept o u w e = put_there t o s.held u (λ q. cc) ∙ e
 
   pub fill_kept : (a : ℕ) → Kept s (hold t (Some a) s) (λ x. x)
   fill_kept a = record { numbered = λ x h. h; together = λ x y q. q; found = λ u w e. still (hold t (Some a) s) u w (put_kept (Some a) u w e) }

@@ -38,11 +38,11 @@ pub record Loads (work : ℕ) (ws : List ℕ) (m : Meaning) (L : Loaded) : Type 
 
 with_problem_told : (r : Result Problem SchemaFault) (f : Problem → Result Loaded LoadFault) (L : Loaded) → with_problem r f ≡ Ok L → (p : Problem) × (r ≡ Ok p) × (f p ≡ Ok L)
 with_problem_told (Ok p) f L e = (p, refl, e)
-with_problem_told (Err x) f L e = absurd (let z : ◌≡◌ {A = ℕ} 0 1 = cc in omega arith)
+with_problem_told (Err x) f L e = absurd (cc)
 
 unless_strays_told : (o : Option ℕ) (r : Result Loaded LoadFault) (L : Loaded) → unless_strays o r ≡ Ok L → (o ≡ None) × (r ≡ Ok L)
 unless_strays_told None r L e = (refl, e)
-unless_strays_told (Some i) r L e = absurd (let z : ◌≡◌ {A = ℕ} 0 1 = cc in omega arith)
+unless_strays_told (Some i) r L e = absurd (cc)
 
 pub loads : (work : ℕ) (ws : List ℕ) (m : Meaning) (L : Loaded) → load work ws m ≡ Ok L → Loads work ws m L
 loads work ws m L e =
@@ -69,7 +69,7 @@ map_at ss km ts n (q ∷ qs) w zero j e h = let d : n ≡ j = omega arith in sub
 map_at ss km ts n (q ∷ qs) w (suc i) j e h = map_at ss km ts (n + 1) qs w.1 i j (omega arith) (omega arith)
 
 ends_told : (a : Link) (o : Option (ℕ × ℕ)) → other_ends a o ≡ false → o ≡ Some (a.from, a.to)
-ends_told a None e = absurd (let z : ◌≡◌ {A = ℕ} 0 1 = cc in omega arith)
+ends_told a None e = absurd (cc)
 ends_told a (Some d) e =
     let t = and_parts (eqb d.0 a.from) (eqb d.1 a.to) (not-false _ e) in
     let p = eqb-true d.0 a.from t.0 in

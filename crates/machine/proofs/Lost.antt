@@ -1,5 +1,5 @@
 -- Nothing that was filled is ever lost.
-use Rattle.std.proofs.Common.{◌≡◌, ℕ, zero, suc, Bool, true, false, cond, eqb, List, [], ◌∷◌, length, Some, None, Option, sym, refl, ap, ◌∙◌, arith}
+use Rattle.std.proofs.Common.{◌≡◌, ℕ, zero, suc, Bool, true, false, cond, eqb, List, [], ◌∷◌, length, Some, None, Option, sym, refl, ap, ◌∙◌}
 use Rattle.words.specs.declared.faults.Refusal.TheVariants as refusal
 use Rattle.machine.specs.Loaded.{Loaded}
 use Rattle.machine.specs.State.{Slot, cell, landing, State, start, born, waits}
@@ -86,7 +86,7 @@ at_landing z (landing i j) k r q = q
 
 at_cell : (z : State) (u : Slot) (e l : ℕ) → place z (λ x. x) u ≡ cell e l → (d : ℕ) × (u ≡ cell d l) × (end z d ≡ e)
 at_cell z (cell d k) e l q = let p : k ≡ l = cc in (d, ap (cell d) p, (cc))
-at_cell z (landing i j) e l q = absurd (let p : ◌≡◌ {A = ℕ} 0 1 = cc in omega arith)
+at_cell z (landing i j) e l q = absurd (cc)
 
 not_lost : (L : Loaded) (s z : State) (f : ℕ → ℕ) → Good L z → Kept s z f → NotLost s z f
 not_lost L s z f g k = record {

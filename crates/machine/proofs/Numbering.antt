@@ -1,5 +1,5 @@
 -- The sequence has each living entry once.
-use Rattle.std.proofs.Common.{◌≡◌, ℕ, zero, suc, ◌<◌, ◌≤◌, Bool, true, false, cond, ◌||◌, eqb, ◌⊎◌, List, [], ◌∷◌, ◌++◌, length, Some, None, Option, sym, refl, ap, ◌∙◌, subst, inl, inr, arith}
+use Rattle.std.proofs.Common.{◌≡◌, ℕ, zero, suc, ◌<◌, ◌≤◌, Bool, true, false, cond, ◌||◌, eqb, ◌⊎◌, List, [], ◌∷◌, ◌++◌, length, Some, Option, sym, refl, ap, ◌∙◌, subst, inl, inr, arith}
 use Rattle.std.proofs.lemmas.Bool.{cases_eq, eq-eqb, ne_eqb, eqb-false, cond-true, cond-false, or_parts, false≢true}
 use Rattle.machine.specs.Loaded.{Loaded}
 use Rattle.machine.specs.State.{Slot, cell, landing, State, start, on}
@@ -9,7 +9,7 @@ use Rattle.machine.specs.Sequence.{member, nth, met, met_in, of_kind, of_landing
 use Rattle.machine.proofs.Wide.{Good}
 use Rattle.machine.proofs.Base.{chase_fix, end_forward}
 use Rattle.machine.proofs.Closed.{Closed, Before, closed_all}
-use Rattle.machine.proofs.Fill.{some_same, some_none}
+use Rattle.machine.proofs.Fill.{some_same}
 use Rattle.machine.proofs.Check.{on_cases}
 use Rattle.machine.proofs.Sweep.{use_lives}
 use Rattle.machine.proofs.Runs.{calls_good, start_good}
@@ -20,20 +20,20 @@ In e xs = (i : ℕ) × (nth xs i ≡ Some e)
 -- places
 pub nth_below : (xs : List ℕ) (i w : ℕ) → nth xs i ≡ Some w → i < length xs
 unfolding nth
-nth_below [] i w e = absurd (some_none w None e refl)
+nth_below [] i w e = absurd (cc)
 nth_below (x ∷ xs) zero w e = omega arith
 nth_below (x ∷ xs) (suc i) w e = let h = nth_below xs i w e in omega (arith, h)
 
 pub nth_before : (xs : List ℕ) (i j w : ℕ) → i < j → nth xs j ≡ Some w → (e : ℕ) × (nth xs i ≡ Some e)
 unfolding nth
-nth_before [] i j w h e = absurd (some_none w None e refl)
+nth_before [] i j w h e = absurd (cc)
 nth_before (x ∷ xs) zero j w h e = (x, refl)
 nth_before (x ∷ xs) (suc i) zero w h e = absurd (omega (arith, h))
 nth_before (x ∷ xs) (suc i) (suc j) w h e = nth_before xs i j w (omega (arith, h)) e
 
 nth_front : (xs : List ℕ) (x i w : ℕ) → nth xs i ≡ Some w → nth (xs ++ (x ∷ [])) i ≡ Some w
 unfolding nth
-nth_front [] x i w e = absurd (some_none w None e refl)
+nth_front [] x i w e = absurd (cc)
 nth_front (y ∷ xs) x zero w e = e
 nth_front (y ∷ xs) x (suc i) w e = nth_front xs x i w e
 
@@ -52,7 +52,7 @@ member_in x (y ∷ ys) e = elim (cases_eq x y) [
 
 pub in_member : (x : ℕ) (xs : List ℕ) (i : ℕ) → nth xs i ≡ Some x → member x xs ≡ false → ⊥
 unfolding member nth
-in_member x [] i e h = some_none x None e refl
+in_member x [] i e h = cc
 in_member x (y ∷ ys) zero e h = eqb-false x y (or_parts (eqb x y) (member x ys) h).0 (sym (some_same y x (Some y) refl e))
 in_member x (y ∷ ys) (suc i) e h = in_member x ys i e (or_parts (eqb x y) (member x ys) h).1
 
@@ -90,7 +90,7 @@ met_has x xs = met_cases (In x) x xs (λ e. member_in x xs e) (λ e. nth_last xs
 pub nth_split : (xs : List ℕ) (x i w : ℕ) → nth (xs ++ (x ∷ [])) i ≡ Some w → (nth xs i ≡ Some w) ⊎ ((i ≡ length xs) × (w ≡ x))
 unfolding nth
 nth_split [] x zero w e = inr (refl, sym (some_same x w (Some x) refl e))
-nth_split [] x (suc i) w e = absurd (some_none w None e refl)
+nth_split [] x (suc i) w e = absurd (cc)
 nth_split (y ∷ xs) x zero w e = inl e
 nth_split (y ∷ xs) x (suc i) w e = elim (nth_split xs x i w e) [ inl q ↦ inl q | inr q ↦ inr (ap suc q.0, q.1) ]
 
@@ -204,7 +204,7 @@ module _ (L : Loaded) (s : State) (g : Good L s) (quiet : s.waiting ≡ []) wher
 
   pub landings_fine : (n : ℕ) → Fine Lives (of_landings L s n)
   unfolding of_landings nth
-  landings_fine zero = record { once = λ i j e p q. absurd (some_none e None p refl); all = λ i e p. absurd (some_none e None p refl) }
+  landings_fine zero = record { once = λ i j e p q. absurd (cc); all = λ i e p. absurd (cc) }
   landings_fine (suc k) = kind_fine k (L.count k) (of_landings L s k) (landings_fine k)
 
   pub landings_has : (n k r w : ℕ) → k < n → r < L.count k → s.held (landing k r) ≡ Some w → In w (of_landings L s n)
@@ -238,7 +238,7 @@ module _ (L : Loaded) (s : State) (g : Good L s) (quiet : s.waiting ≡ []) wher
   visit_visited : (n : ℕ) (xs : List ℕ) → Visited n xs → Visited (suc n) (visit L s n xs)
   visit_visited n xs v = on_cases (Visited (suc n)) (nth xs n) xs (λ e. of_cells s e L.links xs)
       (λ none i e h q k w hk held. elim (cases_eq i n) [
-        | inl z ↦ absurd (some_none e (nth xs n) (ap (nth xs) (sym z) ∙ q) none)
+        | inl z ↦ absurd (cc)
         | inr z ↦ v i e (omega (arith, h, z)) q k w hk held
       ])
       (λ d some i e h q k w hk held. elim (cases_eq i n) [

@@ -37,7 +37,7 @@ walk_along h [] e a q = cc
 walk_along h (l ∷ ls) e a q = go (h (cell e l)) refl (λ w. walk_along h ls w a) q
   where
     go : (o : Option ℕ) → h (cell e l) ≡ o → ((w : ℕ) → walk h w ls ≡ ended a → along (λ l x. content (h (cell x l))) w ls ≡ a) → on o (stopped (cell e l) (length ls)) (λ w. walk h w ls) ≡ ended a → along (λ l x. content (h (cell x l))) (content (h (cell e l))) ls ≡ a
-    go None p f z = absurd (let y : ◌≡◌ {A = ℕ} 0 1 = cc in omega (arith, y))
+    go None p f z = absurd (cc)
     go (Some w) p f z = ap (λ o. along (λ l x. content (h (cell x l))) (content o) ls) p ∙ f w z
 
 module _ (L : Loaded) (acc : Accepted L) (s : State) (b : Whole L s) where

@@ -1,5 +1,5 @@
 -- The whole promise of a table.
-use Rattle.std.proofs.Common.{◌≡◌, ℕ, Bool, true, false, cond, leb, List, ◌++◌, length, take, drop, Some, None, Ok, Err, Option, Result, sym, refl, ap, ◌∙◌, subst, arith}
+use Rattle.std.proofs.Common.{◌≡◌, ℕ, Bool, true, false, cond, leb, List, ◌++◌, length, take, drop, Some, None, Ok, Err, Option, Result, sym, refl, ap, ◌∙◌, subst}
 use Rattle.std.proofs.lemmas.List.{take_at}
 use Rattle.words.specs.declared.faults.Refusal.{Refusal}
 use Rattle.words.specs.declared.faults.Refusal.TheVariants as refusal
@@ -17,10 +17,10 @@ use Rattle.machine.proofs.Loads.{accepted, taken_from, same_load}
 -- words that were put stand at the front of the output
 room_told : (b : Bool) (ws out : List ℕ) (n : ℕ) → let r : Result ℕ Refusal × List ℕ = cond b (Ok (length ws), ws ++ drop (length ws) out) (Err refusal.Memory, out) in r.0 ≡ Ok n → take n r.1 ≡ ws
 room_told true ws out n e = let q : length ws ≡ n = cc in take_at ws (drop (length ws) out) n q
-room_told false ws out n e = absurd (let z : ◌≡◌ {A = ℕ} 0 1 = cc in omega arith)
+room_told false ws out n e = absurd (cc)
 
 pub put_told : (f : Option Refusal) (ws out : List ℕ) (n : ℕ) → (put_words f ws out).0 ≡ Ok n → (f ≡ None) × (take n (put_words f ws out).1 ≡ ws)
-put_told (Some x) ws out n e = absurd (let z : ◌≡◌ {A = ℕ} 0 1 = cc in omega arith)
+put_told (Some x) ws out n e = absurd (cc)
 put_told None ws out n e = (refl, room_told (leb (length ws) (length out)) ws out n e)
 
 -- a finish that is accepted is not refused, and its words are those of the numbering

@@ -93,8 +93,8 @@ apply_good L acc sweep s g = unless_cases (Good L) (sweep_fault s) s (swept s) g
 
 pub start_good : (L : Loaded) → Good L start
 start_good L = record {
-  sound = record { lower = λ x. omega arith; fresh = λ x h. refl; dead = λ x m. elim m [ ]; used = λ t w e. absurd (Rattle.machine.proofs.Fill.some_none w None e refl) };
-  read = λ R P. ((λ x. 0), record { counted = λ e h. absurd (omega (arith, h)); agrees = λ t w e. absurd (Rattle.machine.proofs.Fill.some_none w None e refl); forwards = λ e. refl });
+  sound = record { lower = λ x. omega arith; fresh = λ x h. refl; dead = λ x m. elim m [ ]; used = λ t w e. absurd (cc) };
+  read = λ R P. ((λ x. 0), record { counted = λ e h. absurd (omega (arith, h)); agrees = λ t w e. absurd (cc); forwards = λ e. refl });
   reached = λ e h. absurd (omega (arith, h));
 }
 
@@ -148,7 +148,7 @@ calls_kinds L acc [] s g ks = ks
 calls_kinds L acc (c ∷ cs) s g ks = calls_kinds L acc cs (call L c s) (call_good L acc c s g) (call_kinds L acc c s g ks)
 
 pub start_kinds : (L : Loaded) → Kinds L start
-start_kinds L = record { kept = λ x. refl; fit = λ t w e. absurd (Rattle.machine.proofs.Fill.some_none w None e refl) }
+start_kinds L = record { kept = λ x. refl; fit = λ t w e. absurd (cc) }
 
 pub all_kinds : AllKinds
 all_kinds L acc cs = calls_kinds L acc cs start (start_good L) (start_kinds L)

@@ -70,7 +70,7 @@ empty_draining L v n s d = record {
   dead = d.dead;
   numbered = d.numbered;
   front = d.front;
-  unheld = λ t e. elim (put_held (cell v n) None s.held t v e) [ inl q ↦ some_none v None q.1 refl | inr q ↦ d.unheld t q.1 ];
+  unheld = λ t e. elim (put_held (cell v n) None s.held t v e) [ inl q ↦ cc q.1 | inr q ↦ d.unheld t q.1 ];
   emptied = λ k h. elim (put_cases (cell v n) (cell v k) None s.held) [
     | inl q ↦ q.1
     | inr q ↦ q.1 ∙ d.emptied k (omega (arith, h, λ (e : k ≡ n). q.0 (ap (cell v) e)))
@@ -212,7 +212,7 @@ drained L v (suc n) s h d =
 
 -- holding the living end in place of v
 pub swap_held : (v u : ℕ) (o : Option ℕ) (y : ℕ) → swap v u o ≡ Some y → ((o ≡ Some v) × (y ≡ u)) ⊎ ((o ≡ Some y) × (y ≡ v → ⊥))
-swap_held v u None y e = absurd (some_none y None e refl)
+swap_held v u None y e = absurd (cc)
 swap_held v u (Some x) y e = elim (cases_eq x v) [
   | inl q ↦ (let k = cond-true (eqb x v) u x (eq-eqb x v q) in inl (ap Some q, (cc)))
   | inr q ↦ (let k = cond-false (eqb x v) u x (ne_eqb x v q) in let z : x ≡ y = cc in inr (ap Some z, λ p. q (z ∙ p)))

@@ -10,7 +10,6 @@ use Rattle.machine.specs.Sound.{Mem, InUse, Owner, Sound, Reach}
 use Rattle.machine.proofs.Wide.{Receiver, Placing, Reading, Good}
 use Rattle.machine.proofs.Base.{chase_fix, end_forward}
 use Rattle.machine.proofs.Closed.{Closed, Before, closed_all, closed_reach}
-use Rattle.machine.proofs.Fill.{some_none}
 use Rattle.machine.proofs.Merge.{end_in_use}
 use Rattle.machine.proofs.Kept.{Found, Kept}
 use Rattle.machine.proofs.Ranks.{rank_live, rank_dead}
@@ -66,12 +65,12 @@ module _ (f : ℕ → ℕ) where
   ]
 
 pub renamed_held : (f : ℕ → ℕ) (o : Option ℕ) (y : ℕ) → renamed f o ≡ Some y → (w : ℕ) × (o ≡ Some w) × (y ≡ f w)
-renamed_held f None y e = absurd (some_none y None e refl)
+renamed_held f None y e = absurd (cc)
 renamed_held f (Some w) y e = (w, refl, (cc))
 
 when_some : (b : Bool) (o : Option ℕ) (y : ℕ) → cond b o None ≡ Some y → (b ≡ true) × (o ≡ Some y)
 when_some true o y e = (refl, e)
-when_some false o y e = absurd (some_none y None e refl)
+when_some false o y e = absurd (cc)
 
 module _ (L : Loaded) (s : State) (g : Good L s) (none : s.waiting ≡ []) where
   abbrev f : ℕ → ℕ

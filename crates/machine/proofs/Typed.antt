@@ -13,7 +13,7 @@ use Rattle.machine.specs.Sound.{Owner, Sound, content_kind, Leaves, Kinds}
 use Rattle.machine.proofs.Wide.{Good}
 use Rattle.machine.proofs.Base.{chase_keeps}
 use Rattle.machine.proofs.Merge.{turned_cases, meet_cases}
-use Rattle.machine.proofs.Fill.{some_same, some_none, put_held}
+use Rattle.machine.proofs.Fill.{some_same, put_held}
 use Rattle.machine.proofs.Check.{on_cases}
 use Rattle.machine.proofs.Settle.{swap_held}
 use Rattle.machine.proofs.Sweep.{cell_was, renamed_held, use_pick, use_rank}
@@ -41,7 +41,7 @@ module _ (L : Loaded) (s : State) (ks : Kinds L s) where
   empty_kinds t = record {
     kept = ks.kept;
     fit = λ u w e. elim (put_held t None s.held u w e) [
-      | inl q ↦ absurd (some_none w None q.1 refl)
+      | inl q ↦ absurd (cc q.1)
       | inr q ↦ ((ks.fit u w q.1).0, leaves_same L s (hold t None s) u refl (ks.fit u w q.1).1)
     ];
   }

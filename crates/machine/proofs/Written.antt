@@ -135,7 +135,7 @@ one_table L acc b c cs ds p q =
 
 nothing_left : (o : Option Op) → unfinished o ≡ None → o ≡ None
 nothing_left None e = refl
-nothing_left (Some o) e = absurd (let z : ◌≡◌ {A = ℕ} 0 1 = cc in omega arith)
+nothing_left (Some o) e = absurd (cc)
 
 pub finish_accepts : FinishAccepts
 finish_accepts L acc cs =

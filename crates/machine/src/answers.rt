@@ -29,27 +29,12 @@ impl From<LoadFault> for Fault {
 
     fn from(f: LoadFault) -> Fault {
         match f {
-            LoadFault::Loaded => Fault {
-                refusal: Refusal::State,
-                place: 0,
-            },
+            LoadFault::Loaded => Refusal::State.at(0),
             LoadFault::Problem(g) => Fault::from(g),
-            LoadFault::Shape => Fault {
-                refusal: Refusal::Shape,
-                place: 0,
-            },
-            LoadFault::Large => Fault {
-                refusal: Refusal::Large,
-                place: 0,
-            },
-            LoadFault::Leads(link) => Fault {
-                refusal: Refusal::Leads,
-                place: link as usize,
-            },
-            LoadFault::Memory => Fault {
-                refusal: Refusal::Memory,
-                place: 0,
-            },
+            LoadFault::Shape => Refusal::Shape.at(0),
+            LoadFault::Large => Refusal::Large.at(0),
+            LoadFault::Leads(link) => Refusal::Leads.at(link as usize),
+            LoadFault::Memory => Refusal::Memory.at(0),
         }
     }
 }

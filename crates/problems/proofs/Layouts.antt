@@ -15,7 +15,7 @@ use Rattle.words.proofs.Single.{word_told, word_read}
 use Rattle.words.proofs.Standing.{Stands, join, front, back, stood_stands, stands_stood, stands_other, whole, itself}
 use Rattle.problems.specs.Problem.{Link, Rule, Problem, schema_of, schema, link, links, rule, rule_size, path_size, whole_schema, kind_mapped, link_mapped, read}
 use Rattle.problems.specs.Layout.{link_words, rule_words, kind_words, map_words, schema_words, before_end, layout, GoodLink, GoodSchema, GoodRule, GoodMap, WellFormed, ReadsLayouts, ReadsOnce}
-use Rattle.problems.proofs.Schemas.{schema_told}
+use Rattle.problems.proofs.SchemaReads.{schema_told}
 use Rattle.problems.proofs.Mapping.{kind_told, maps_length}
 use Rattle.problems.proofs.Laying.{link_stands, link_good, link_read, rule_told, rule_read, kind_stands, kind_read, map_told, map_read}
 use Rattle.problems.proofs.Problems.{ProblemRead, problem_told, problem_made}

@@ -1,7 +1,7 @@
 pub mod Paths
 pub mod Ruling
 pub mod Mapping
-pub mod Schemas
+pub mod SchemaReads
 pub mod Walking
 pub mod Laying
 pub mod Problems

@@ -9,7 +9,7 @@ use Rattle.words.proofs.Inverse.{err_ok, then_ok, worded_ok, if_ok, else_ok}
 use Rattle.words.proofs.Single.{word_told}
 use Rattle.words.specs.Items.{sized, got, one_word}
 use Rattle.problems.specs.Problem.{Link, no_link, link_of, link, links, step_of, step, path}
-use Rattle.problems.specs.Seen.{Linked, links_got, reached}
+use Rattle.problems.specs.Seen.{Linked, links_got, stepped, reached}
 use Rattle.words.proofs.Items.{items_at, places_one}
 use Rattle.words.specs.declared.tags.Tag.TheVariants as tag
 
@@ -102,6 +102,16 @@ module _ (ts : List Link) (ws : List ℕ) where
       let b : (get_or ts x.0 no_link).from ≡ kind = grind (arith, nat_tests) in
       (worded_ok (word tag.Step ws p) x.0 x.1 ∙ ap Ok s, rw s at a, ap (λ h. (get_or ts h no_link).from) (sym s) ∙ b)
 
+  pub stepped_ok : (kind p to : ℕ) → stepped ts ws kind p ≡ Ok to → (g : ℕ) × (step ts ws kind p ≡ Ok g) × (to ≡ (get_or ts g no_link).to)
+  stepped_ok kind p to e = let x = then_ok (step ts ws kind p) (λ g. Ok (get_or ts g no_link).to) to e in (x.0, x.1, let q = x.2 in cc)
+
+  pub stepped_err : (kind p : ℕ) (y : SchemaFault) → stepped ts ws kind p ≡ Err y → step ts ws kind p ≡ Err y
+  stepped_err kind p y e = leading (step ts ws kind p) y e
+    where
+      leading : (r : Result ℕ SchemaFault) (y : SchemaFault) → then r (λ g. Ok (get_or ts g no_link).to) ≡ Err y → r ≡ Err y
+      leading (Ok g) y e = absurd (err_ok (sym e))
+      leading (Err z) y e = cc
+
   -- an accepted path, its first step and its rest
   pub path_split : (n kind p : ℕ) (x : List ℕ × ℕ) → path ts ws (suc n) kind p ≡ Ok x
       → (g : ℕ) × (y : List ℕ × ℕ) × (step ts ws kind p ≡ Ok g) × (path ts ws n (get_or ts g no_link).to (p + 1) ≡ Ok y) × (x ≡ (g ∷ y.0, y.1))
@@ -127,9 +137,3 @@ module _ (ts : List Link) (ws : List ℕ) where
   pub reached_ok : (r : Result (List ℕ × ℕ) SchemaFault) (k : ℕ) → reached r ≡ Ok k → (x : List ℕ × ℕ) × (r ≡ Ok x) × (x.1 ≡ k)
   reached_ok (Ok x) k e = (x, refl, cc)
   reached_ok (Err y) k e = absurd (err_ok e)
-
-pub link_known : (kinds : ℕ) (ws : List ℕ) (at n g v : ℕ) → Linked kinds ws at n → g < n → v ≡ get_or ws (at + g) 0 % 268435456 → (v / 256 < kinds) × (v % 256 < kinds)
-link_known kinds ws at n g v k h e =
-    let r = link_at kinds ws at n g k h in
-    let x = link_from kinds ws at n g v k h e in
-    (rw x.0 r.from_known, rw x.1 r.to_known)

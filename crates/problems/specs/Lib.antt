@@ -1,5 +1,6 @@
 pub mod Problem
 pub mod Seen
+pub mod Held
 pub mod Shown
 pub mod Layout
 pub mod Accepts

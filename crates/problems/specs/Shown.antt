@@ -6,16 +6,11 @@ use Rattle.words.specs.declared.faults.SchemaFault.{SchemaFault}
 use Rattle.problems.specs.declared.Schema.{Schema}
 use Rattle.problems.specs.declared.Found.{Found}
 use Rattle.words.specs.Items.{places, sizes, one_word}
-use Rattle.problems.specs.Problem.{Link, Problem, rule_size, path_size}
+use Rattle.problems.specs.Problem.{Problem, rule_size, path_size}
 
 abbrev pub shown : {N : ℕ} → Result (Bounded ℕ N × ℕ) SchemaFault → Result (List ℕ × ℕ) SchemaFault
 shown (Ok l) = Ok (listed l.0, l.1)
 shown (Err e) = Err e
-
--- what the code keeps of a schema
-abbrev pub seen : ℕ → Result (ℕ × List Link) SchemaFault → Result Schema SchemaFault
-seen at (Ok s) = Ok (record { kinds = s.0; links = length s.1; place = at + 1 })
-seen at (Err e) = Err e
 
 -- what the code keeps of a problem: the schemas, the place of each rule, of the kind maps, and of each link map
 pub record Seen : Type 0 where

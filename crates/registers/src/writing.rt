@@ -24,18 +24,9 @@ impl From<WriteFault> for Fault {
 
     fn from(f: WriteFault) -> Fault {
         match f {
-            WriteFault::Large => Fault {
-                refusal: Refusal::Large,
-                place: 0,
-            },
-            WriteFault::Leads(link) => Fault {
-                refusal: Refusal::Leads,
-                place: link as usize,
-            },
-            WriteFault::Memory => Fault {
-                refusal: Refusal::Memory,
-                place: 0,
-            },
+            WriteFault::Large => Refusal::Large.at(0),
+            WriteFault::Leads(link) => Refusal::Leads.at(link as usize),
+            WriteFault::Memory => Refusal::Memory.at(0),
         }
     }
 }

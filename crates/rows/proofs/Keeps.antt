@@ -1,8 +1,8 @@
 -- Each write makes a tidy table of a tidy one, and leaves the copies.
-use Rattle.std.proofs.Common.{◌≡◌, ℕ, suc, ◌+◌, ◌<◌, ◌≤◌, List, length, get_or, set, Some, None, Option, sym, refl, ap, ◌∙◌, subst, inl, inr, arith}
+use Rattle.std.proofs.Common.{◌≡◌, ℕ, ◌+◌, ◌<◌, ◌≤◌, List, length, get_or, set, Some, None, Option, sym, refl, ap, ◌∙◌, subst, inl, inr, arith}
 use Rattle.std.proofs.lemmas.List.{length-set, get_or-set_other}
 use Rattle.std.proofs.lemmas.Bool.Decides.{nat_tests}
-use Rattle.machine.specs.State.{Slot, State, hold, born}
+use Rattle.machine.specs.State.{Slot, State, hold}
 use Rattle.machine.specs.Merging.{die}
 use Rattle.machine.specs.Settling.{pop}
 use Rattle.machine.specs.Sweeping.{rank}
@@ -11,7 +11,7 @@ use Rattle.machine.proofs.Merge.{turned_cases}
 use Rattle.machine.proofs.Ranks.{rank_live, rank_after}
 use Rattle.rows.specs.Layout.{Raw, Shape, Fits, Tidy, Same, Becomes, Copied, Within, spot, place, shown, forward_of, decode}
 use Rattle.rows.specs.Writes.{changed, emptied, added}
-use Rattle.rows.proofs.Places.{spot_copied, copied_low, within_more}
+use Rattle.rows.proofs.Places.{spot_copied, copied_low}
 use Rattle.rows.proofs.Shown.{with, decode_more, shown_hold, grown, length_grown, grown_low, shown_grown, dead, dead_low, shown_dead, popped, shown_popped}
 
 -- what a held entry is below
@@ -103,18 +103,6 @@ becomes_added r ok k at ws free e0 e =
       same = same_low r (grown r ok.fits k free) (r.given + 1) r.waits ok.fits l (grown_low r ok.fits k free);
     })
 
--- a slot keeps its word
-pub within_kept : (a b : Raw) (t : Slot) → Same a b → a.given ≤ b.given → Within a.shape a.given t → Within b.shape b.given t
-within_kept a b t e le w = subst (λ (h : Shape). Within h b.given t) (sym e.shape) (within_more a.shape t a.given b.given le w)
-
-pub added_more : (a b : Raw) (k : ℕ) → Becomes a (added k) b → b.given ≡ suc a.given
-added_more a b k p = ap (λ (s : State). s.given) p.state
-
--- an entry is born
-pub becomes_born : (a b c : Raw) (k n : ℕ) (t : Slot) → n ≡ a.given → Becomes a (added k) b → Becomes b (hold t (Some n)) c → Becomes a (born k t) c
-becomes_born a b c k n t e p q = becomes_as a c (λ s. hold t (Some n) (added k s)) (born k t) (becomes_then a b c (added k) (hold t (Some n)) p q)
-    (ap (λ (m : ℕ). hold t (Some m) (added k (shown a))) e)
-
 -- where an entry lives, the waiting list has room
 module _ (r : Raw) (ok : Tidy r) (v u : ℕ) (here : v < r.given) (less : u < v) (lives : (shown r).forward v ≡ v) where
   pub wait_room : r.front + r.waits < r.shape.capacity
@@ -135,9 +123,6 @@ module _ (r : Raw) (ok : Tidy r) (v u : ℕ) (here : v < r.given) (less : u < v)
       })
 
 -- the first that waits is taken from the list
-pub pop_room : (r : Raw) → Tidy r → 0 < r.waits → r.front < r.shape.capacity
-pop_room r ok h = omega (arith, ok.queued, ok.fits.few)
-
 pub becomes_popped : (r : Raw) → Tidy r → 0 < r.waits → Becomes r pop (popped r)
 becomes_popped r ok h =
     let q = shown_popped r h in

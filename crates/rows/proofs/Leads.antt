@@ -12,7 +12,7 @@ use Rattle.machine.specs.Checking.{link_effect}
 use Rattle.rows.specs.declared.paths.Lead.{Lead}
 use Rattle.rows.specs.Layout.{Raw, inside}
 use Rattle.rows.specs.Standing.{Holds, Holding, led_effect, lead_of}
-use Rattle.rows.proofs.Outline.{told_some, told_none, source_links_are, source_few, ends_none, ends_some}
+use Rattle.rows.proofs.Outline.{told_some, told_none, source_links_are, source_few, ends_some}
 
 -- where there is such a link and record, and where not
 module _ (L : Loaded) (i q : ℕ) where
@@ -40,9 +40,6 @@ module _ (L : Loaded) (i q : ℕ) where
 
 -- by the words
 module _ (L : Loaded) (r : Raw) (f : Found) (leads : List ℕ) (x : Holds L r f leads) (i q : ℕ) where
-  pub lead_no_link : None ≡ ends_of f.source r.ws i → None ≡ lead_of L i q
-  lead_no_link n = let b = (ends_none L r f x.stands i n) in rw b refl
-
   module _ (e : ℕ × ℕ) (p : Some e ≡ ends_of f.source r.ws i) (b : Bool) (t : b ≡ inside r.shape r.given (landing e.0 q)) where
     ends : (i < L.source_links) × (e ≡ (L.source_from i, L.source_to i))
     ends = ends_some L r f x.stands i e p

@@ -123,9 +123,6 @@ module _ (L : Loaded) (r : Raw) (f : Found) (st : Stands L r f) where
       | inr t ↦ rw t.0 refl
     ])
 
-    pub ends_none : None ≡ ends_of f.source r.ws l → ltb l L.source_links ≡ false
-    ends_none n = told_none (ltb l L.source_links) _ (n ∙ source_ends_are)
-
     pub ends_some : (e : ℕ × ℕ) → Some e ≡ ends_of f.source r.ws l → (l < L.source_links) × (e ≡ (L.source_from l, L.source_to l))
     ends_some e n = let t = told_some (ltb l L.source_links) _ e (n ∙ source_ends_are) in (ltb-true l L.source_links t.0, t.1)
 

@@ -62,11 +62,6 @@ module _ (h : Shape) (given : ℕ) where
   within_true (cell e l) w = grind (arith, nat_tests)
   within_true (landing k q) w = grind (arith, nat_tests)
 
--- a slot that has a word keeps it while entries are added
-pub within_more : (h : Shape) (t : Slot) (m n : ℕ) → m ≤ n → Within h m t → Within h n t
-within_more h (cell e l) m n le w = (omega arith, w.1)
-within_more h (landing k q) m n le w = w
-
 module _ (r : Raw) (fits : Fits r) where
   pub copied_low : (i : ℕ) → Copied r.shape i → i < r.shape.base
   copied_low i (inl c) = omega (arith, fits.below)

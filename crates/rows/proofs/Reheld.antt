@@ -1,5 +1,5 @@
 -- One entry in the place of another, in all slots.
-use Rattle.std.proofs.Common.{◌≡◌, ℕ, ◌+◌, ◌-◌, ◌*◌, ◌<◌, ◌≤◌, true, false, cond, ◌&&◌, eqb, ltb, leb, ◌⊎◌, List, length, get_or, sym, refl, ap, ◌∙◌, inl, inr, add-one, arith}
+use Rattle.std.proofs.Common.{◌≡◌, ℕ, ◌+◌, ◌-◌, ◌*◌, ◌<◌, ◌≤◌, true, false, cond, ◌&&◌, eqb, ltb, leb, ◌⊎◌, List, length, get_or, sym, refl, ap, ◌∙◌, inl, inr, arith}
 use Rattle.std.specs.List.{range_with_len}
 use Rattle.std.proofs.lemmas.Nat.{mul-le}
 use Rattle.std.proofs.lemmas.Bool.{cases_Bool}
@@ -26,13 +26,6 @@ decode_swapped v u w = elim (eqb_tells w 0) [
     | inr q ↦ (let a : eqb (w - 1) v ≡ false = grind (arith, nat_tests) in rw (q.0, z.0, a) refl)
   ]
 ]
-
--- the rows one by one, as the code comes to them
-module _ (f : ℕ → ℕ) (a b : Raw) (e : ℕ) (p : b ≡ over a (changed_rows f a.ws a.shape.base a.shape.links e)) where
-  pub rows_more : (c : Raw) → c ≡ over b (changed f b.ws (place b.shape.base b.shape.links e 3) b.shape.links) →
-      c ≡ over a (changed_rows f a.ws a.shape.base a.shape.links (e + 1))
-  rows_more c q = q ∙ ap (λ (z : Raw). over z (changed f z.ws (place z.shape.base z.shape.links e 3) z.shape.links)) p
-      ∙ ap (λ (n : ℕ). over a (changed_rows f a.ws a.shape.base a.shape.links n)) (sym (add-one e))
 
 module _ (r : Raw) (ok : Tidy r) (v u : ℕ) where
   abbrev rows : List ℕ

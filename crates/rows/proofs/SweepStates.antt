@@ -2,12 +2,12 @@
 use Rattle.std.proofs.Common.{◌≡◌, ℕ, ◌+◌, ◌<◌, Bool, true, false, cond, ◌&&◌, ◌||◌, eqb, ltb, [], None, Option, sym, refl, ap, ◌∙◌, inl, inr, add-one, arith}
 use mathlib.Core.Path.{fun_ext}
 use Rattle.std.proofs.lemmas.Bool.Decides.{nat_tests, eqb_tells}
-use Rattle.machine.specs.State.{Slot, cell, landing, State, same}
+use Rattle.machine.specs.State.{Slot, cell, landing, State}
 use Rattle.machine.specs.Sweeping.{rank, pick, renamed, swept}
 use Rattle.machine.proofs.Ranks.{rank_small}
 use Rattle.machine.proofs.Sweep.{pick_rank}
-use Rattle.rows.specs.Layout.{Shape, count, inside}
-use Rattle.rows.specs.Sweeps.{renames, in_row, in_rows, in_kind, in_kinds, at_entry, placed, moves, packs, packed}
+use Rattle.rows.specs.Layout.{Shape, inside}
+use Rattle.rows.specs.Sweeps.{renames, in_rows, in_kinds, at_entry, placed, moves, packs, packed}
 use Rattle.rows.proofs.Shown.{same_state}
 
 -- the number of the living, by the test
@@ -24,41 +24,9 @@ module _ (f : ℕ → ℕ) where
 abbrev pub Adds : Bool → Bool → Bool → Type 0
 Adds a b c = ((a && b) ≡ false) × (c ≡ (a || b))
 
-pub row_more : (e l : ℕ) (t : Slot) → Adds (in_row e l t) (same t (cell e l)) (in_row e (l + 1) t)
-row_more e l (cell x y) = (grind (arith, nat_tests), grind (arith, nat_tests))
-row_more e l (landing j q) = (refl, refl)
-
-pub rows_more : (e n : ℕ) (t : Slot) → Adds (in_rows e n t) (in_row e n t) (in_rows (e + 1) n t)
-rows_more e n (cell x y) = (grind (arith, nat_tests), grind (arith, nat_tests))
-rows_more e n (landing j q) = (refl, refl)
-
-pub kind_more : (k q : ℕ) (t : Slot) → Adds (in_kind k q t) (same t (landing k q)) (in_kind k (q + 1) t)
-kind_more k q (cell x y) = (refl, refl)
-kind_more k q (landing j p) = (grind (arith, nat_tests), grind (arith, nat_tests))
-
-pub kinds_more : (h : Shape) (k : ℕ) (t : Slot) → Adds (in_kinds h k t) (in_kind k (count h k) t) (in_kinds h (k + 1) t)
-kinds_more h k (cell x y) = (refl, refl)
-kinds_more h k (landing j p) = elim (eqb_tells j k) [ inl e ↦ rw e.1 (grind (arith, nat_tests), grind (arith, nat_tests)) | inr e ↦ (grind (arith, nat_tests), grind (arith, nat_tests)) ]
-
 pub parts_all : (h : Shape) (n : ℕ) (t : Slot) → Adds (in_rows n h.links t) (in_kinds h h.kinds t) (inside h n t)
 parts_all h n (cell x y) = (grind (arith, nat_tests), grind (arith, nat_tests))
 parts_all h n (landing j p) = (refl, refl)
-
-pub none_in_row : (e : ℕ) (t : Slot) → in_row e 0 t ≡ false
-none_in_row e (cell x y) = grind (arith, nat_tests)
-none_in_row e (landing j q) = refl
-
-pub none_in_rows : (n : ℕ) (t : Slot) → in_rows 0 n t ≡ false
-none_in_rows n (cell x y) = grind (arith, nat_tests)
-none_in_rows n (landing j q) = refl
-
-pub none_in_kind : (k : ℕ) (t : Slot) → in_kind k 0 t ≡ false
-none_in_kind k (cell x y) = refl
-none_in_kind k (landing j q) = grind (arith, nat_tests)
-
-pub none_in_kinds : (h : Shape) (t : Slot) → in_kinds h 0 t ≡ false
-none_in_kinds h (cell x y) = refl
-none_in_kinds h (landing j q) = grind (arith, nat_tests)
 
 join : (f : ℕ → ℕ) (o : Option ℕ) (a b : Bool) → (a && b) ≡ false → cond b (renamed f (cond a (renamed f o) o)) (cond a (renamed f o) o) ≡ cond (a || b) (renamed f o) o
 join f o true true h = absurd (let z : ◌≡◌ {A = ℕ} 0 1 = cc in omega arith)
@@ -67,9 +35,6 @@ join f o false true h = refl
 join f o false false h = refl
 
 module _ (s : State) where
-  pub renames_none : (p : Slot → Bool) → ((t : Slot) → p t ≡ false) → s ≡ renames p s
-  renames_none p h = same_state _ _ refl (λ _. refl) (λ _. refl) (λ t. sym (ap (λ (b : Bool). cond b (renamed (rank s.forward) (s.held t)) (s.held t)) (h t))) refl
-
   -- one part, and then another
   pub renames_more : (p q r : Slot → Bool) → ((t : Slot) → Adds (p t) (q t) (r t)) → renames q (renames p s) ≡ renames r s
   renames_more p q r h = same_state _ _ refl (λ _. refl) (λ _. refl)

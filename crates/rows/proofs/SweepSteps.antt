@@ -1,5 +1,5 @@
 -- The first steps of sweeping, in the words: a number is written, and a content is renamed.
-use Rattle.std.proofs.Common.{◌≡◌, ℕ, ◌+◌, ◌<◌, Bool, true, false, cond, ltb, List, length, get_or, set, Some, None, Option, sym, refl, ap, ◌∙◌, subst, inl, inr, arith}
+use Rattle.std.proofs.Common.{◌≡◌, ℕ, ◌+◌, ◌<◌, Bool, true, false, cond, ltb, List, length, get_or, set, Some, Option, sym, refl, ap, ◌∙◌, inl, inr, arith}
 use Rattle.std.proofs.lemmas.List.{length-set, get_or-set_other}
 use Rattle.std.proofs.lemmas.Bool.Decides.{nat_tests, eqb_tells}
 use Rattle.machine.specs.State.{Slot, State, same, put, hold, lives}
@@ -22,9 +22,6 @@ goes_none a f s e = record { still = s; state = e; same = record { shape = refl;
 
 pub goes_then : (a b c : Raw) (f g h : State → State) → Goes a f b → Goes b g c → g (f (shown a)) ≡ h (shown a) → Goes a h c
 goes_then a b c f g h p q e = record { still = q.still; state = q.state ∙ ap g p.state ∙ e; same = same_then a b c p.same q.same }
-
-pub goes_to : (a b : Raw) (f : ℕ → State → State) (m n : ℕ) → m ≡ n → Goes a (f m) b → Goes a (f n) b
-goes_to a b f m n e p = subst (λ (k : ℕ). Goes a (f k) b) e p
 
 -- words that are changed
 pub goes_by : (r : Raw) (ws : List ℕ) (f : State → State) → Still r → length ws ≡ length r.ws → ((i : ℕ) → Copied r.shape i → get_or ws i 0 ≡ get_or r.ws i 0) →
@@ -120,10 +117,6 @@ module _ (r : Raw) (s : Still r) (ranked : Ranked r r.given) (t : Slot) (in_t : 
 
     pub renames_slot : Goes r (renames (λ u. same u t)) (with r (set r.ws at (n + 1)) r.given r.waits) × Ranked (with r (set r.ws at (n + 1)) r.given r.waits) r.given
     renames_slot = (goes_rename, ranked_rename)
-
-  pub goes_empty : (shown r).held t ≡ None → Goes r (renames (λ u. same u t)) r
-  goes_empty e = goes_none r (renames (λ u. same u t)) s
-      (renames_one (shown r) t (shown r).held (e ∙ ap (renamed (rank (shown r).forward)) (sym e)) (λ u n. refl))
 
 -- the next number, by the test
 pub next_live : (s t : State) → t ≡ s → (e k : ℕ) → true ≡ lives t e → k ≡ rank s.forward e → k + 1 ≡ rank s.forward (e + 1)

@@ -1,11 +1,10 @@
 -- A walk by the first and by the last step of its path.
-use Rattle.std.proofs.Common.{◌≡◌, ℕ, ◌+◌, ◌-◌, ◌<◌, ◌≤◌, true, false, eqb, List, [], ◌∷◌, ◌++◌, length, get_or, take, drop, Some, None, Option, sym, refl, ap, ◌∙◌, add-one, arith}
+use Rattle.std.proofs.Common.{◌≡◌, ℕ, ◌+◌, ◌-◌, ◌<◌, ◌≤◌, List, [], ◌∷◌, ◌++◌, length, get_or, take, drop, Some, None, Option, sym, refl, ap, ◌∙◌, add-one, arith}
 use Rattle.std.proofs.lemmas.List.{take_rest, take_all, length_push, map_more}
-use Rattle.std.proofs.lemmas.Bool.Decides.{nat_tests}
 use Rattle.words.specs.Words.{fields}
 use Rattle.machine.specs.State.{Slot, cell, on}
 use Rattle.machine.specs.Walking.{Walked, ended, stopped, walk, walk_in}
-use Rattle.rows.specs.Walks.{Way, ends, lacks, far, links, ended_at, side_of}
+use Rattle.rows.specs.Walks.{Way, ends, far, links, ended_at, side_of}
 
 -- all but the last step, and then that one
 abbrev pub then_last : (Slot → Option ℕ) → ℕ → Walked → Way
@@ -42,14 +41,6 @@ module _ (h : Slot → Option ℕ) where
   pub step_filled : (t : Slot) (x : ℕ) → h t ≡ Some x → ends x ≡ side_of (walk_in h t [])
   unfolding walk
   step_filled t x o = rw o
-
-  pub in_empty : (t : Slot) (p : List ℕ) → h t ≡ None → eqb (length p) 0 ≡ true → lacks t ≡ side_of (walk_in h t (links p))
-  in_empty t [] o n = rw o
-  in_empty t (w ∷ ws) o n = absurd (grind (arith, nat_tests))
-
-  pub in_far : (t : Slot) (p : List ℕ) → h t ≡ None → eqb (length p) 0 ≡ false → far ≡ side_of (walk_in h t (links p))
-  in_far t [] o n = absurd (grind (arith, nat_tests))
-  in_far t (w ∷ ws) o n = rw o
 
   -- a path of words by its last step
   parted : (p : List ℕ) (e : ℕ) → 1 ≤ length p → side_of (walk h e (links p)) ≡ then_last h (fields (get_or p (length p - 1) 0)) (walk h e (links (take (length p - 1) p)))

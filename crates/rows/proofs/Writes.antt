@@ -1,9 +1,12 @@
 -- Words after a run of writes, one by one.
-use Rattle.std.proofs.Common.{◌≡◌, ℕ, zero, suc, ◌+◌, ◌-◌, ◌*◌, ◌<◌, ◌≤◌, true, false, cond, ◌&&◌, eqb, ltb, leb, ◌≢◌, ◌⊎◌, List, length, get_or, set, sym, refl, ◌∙◌, inl, inr, add-one, arith}
-use Rattle.std.proofs.lemmas.List.{length-set, get_or-set_same, get_or-set_other, set-get_or}
+use Rattle.std.proofs.Common.{◌≡◌, ℕ, zero, suc, ◌+◌, ◌-◌, ◌*◌, ◌<◌, ◌≤◌, cond, ◌&&◌, eqb, ltb, leb, ◌⊎◌, List, map, length, replicate, get_or, set, sym, refl, ◌∙◌, inl, inr, ap, arith, rules}
+use Rattle.std.proofs.lemmas.List.{length-set, get_or-set_same, get_or-set_other}
+use borrow.Rule.Slice.PartMut.{mid_of, put_mid}
+use Rattle.std.proofs.lemmas.List.{ext_get_or, length-map, get_or-map, places}
+use Rattle.std.proofs.lemmas.Bool.{cases_lt}
 use Rattle.std.proofs.lemmas.Bool.Decides.{nat_tests, eqb_tells, leb_tells}
 use Rattle.rows.specs.Layout.{place, word}
-use Rattle.rows.specs.Writes.{changed, changed_rows, swapped}
+use Rattle.rows.specs.Writes.{changed, changed_rows, emptied}
 use Rattle.rows.proofs.Places.{same_row, same_column, place_fits}
 
 -- a write, wherever it is read
@@ -31,6 +34,23 @@ module _ (f : ℕ → ℕ) where
   pub changed_kept : (ws : List ℕ) (at n x : ℕ) → at + n ≤ length ws → (x < at) ⊎ (at + n ≤ x) → get_or (changed f ws at n) x 0 ≡ get_or ws x 0
   changed_kept ws at n x h (inl a) = get_d_changed ws at n x h ∙ grind (arith, nat_tests)
   changed_kept ws at n x h (inr a) = get_d_changed ws at n x h ∙ grind (arith, nat_tests)
+
+  -- as a part of the words that was written
+  pub in_part : (ws ys : List ℕ) (at k n : ℕ) → at + n ≤ length ws → k ≡ n → length ys ≡ n → ((i : ℕ) → i < n → get_or ys i 0 ≡ f (get_or ws (at + i) 0)) → put_mid at k ws ys ≡ changed f ws at n
+  in_part ws ys at k n h m l e =
+      let size : length (put_mid at k ws ys) ≡ length ws = search (rules, places) in
+      ext_get_or 0 (put_mid at k ws ys) (changed f ws at n) (size ∙ sym (length_changed ws at n)) (λ x hx.
+      elim (cases_lt x at) [
+        | inl a ↦ (let g : get_or (put_mid at k ws ys) x 0 ≡ get_or ws x 0 = search (rules, places) in g ∙ sym (changed_kept ws at n x h (inl a)))
+        | inr a ↦ elim (cases_lt x (at + n)) [
+          | inl b ↦ (
+              let g : get_or (put_mid at k ws ys) x 0 ≡ get_or ys (x - at) 0 = search (rules, places) in
+              let o = e (x - at) (omega arith) in
+              let s : at + (x - at) ≡ x = omega arith in
+              g ∙ o ∙ ap (λ i. f (get_or ws i 0)) s ∙ sym (get_d_changed ws at n x h ∙ grind (arith, nat_tests)))
+          | inr b ↦ (let g : get_or (put_mid at k ws ys) x 0 ≡ get_or ws x 0 = search (rules, places) in g ∙ sym (changed_kept ws at n x h (inr b)))
+        ]
+      ])
 
   -- the first m cells of entry e
   pub word_changed : (ws : List ℕ) (base links e m x y : ℕ) → place base links e 3 + m ≤ length ws → m ≤ links → y < links + 3 →
@@ -74,10 +94,14 @@ module _ (f : ℕ → ℕ) where
         let i = word_rows n x y (fewer_rows n h) hy in
         elim (eqb_tells x n) [ inl q ↦ grind (arith, nat_tests) | inr q ↦ grind (arith, nat_tests) ]
 
--- one word more is swapped, by the test of the code
-module _ (a b : ℕ) (ws xs : List ℕ) (at n : ℕ) (p : xs ≡ changed (swapped a b) ws at n) where
-  pub swap_more : get_or xs (at + n) 0 ≡ a → set xs (at + n) b ≡ changed (swapped a b) ws at (n + 1)
-  swap_more h = rw add-one (rw (← p) (let t : eqb (get_or xs (at + n) 0) a ≡ true = grind (arith, nat_tests) in rw t refl))
+-- a part of the words that was changed, or emptied
+module _ (ws ys : List ℕ) (at k n : ℕ) (h : at + n ≤ length ws) (m : k ≡ n) where
+  size : length (mid_of at k ws) ≡ n
+  size = search (rules, places)
 
-  pub swap_still : get_or xs (at + n) 0 ≢ a → xs ≡ changed (swapped a b) ws at (n + 1)
-  swap_still h = rw add-one (rw (← p) (let t : eqb (get_or xs (at + n) 0) a ≡ false = grind (arith, nat_tests) in rw t (sym (set-get_or xs (at + n) 0))))
+  pub changed_part : (f : ℕ → ℕ) → ys ≡ map f (mid_of at k ws) → put_mid at k ws ys ≡ changed f ws at n
+  changed_part f e = in_part f ws ys at k n h m (rw e (length-map (mid_of at k ws) f ∙ size))
+      (λ i l. let t = size in rw e (get_or-map f (mid_of at k ws) i 0 0 (omega arith) ∙ ap f (search (rules, places))))
+
+  pub emptied_part : ys ≡ replicate (length (mid_of at k ws)) 0 → put_mid at k ws ys ≡ changed emptied ws at n
+  emptied_part e = in_part emptied ws ys at k n h m (let t = size in rw e (search (rules, places))) (λ i l. let t = size in rw e (search (rules, places)))

@@ -1,10 +1,9 @@
 // A table in lent work words, as rows of words.
 #![tactic(auto)]
 
-ghost use Rattle.std.specs.Prelude.{◌≡◌, ◌+◌, ◌≤◌, length, slice_index};
+ghost use Rattle.std.specs.Prelude.{◌≡◌, slice_index};
 ghost use Rattle.rows.specs.Layout.{Fits};
 ghost use Rattle.rows.specs.Sources.{kinds_of, counts_of, starts_of};
-ghost use Rattle.rows.specs.Writes.{changed, emptied};
 
 use bounded::Bounded;
 
@@ -80,18 +79,8 @@ pub struct Rows<'a> {
     }) },
 }
 
-// Writes 0 into the `n` words from `at` on.
-fn clear(words: &mut [u32], at: usize, n: usize)
-    requires { at + n ≤ length words.old }
-    ensures { words.new ≡ changed emptied words.old at n }
-{
-    for i in 0..n {
-        words[at + i] = 0;
-    }
-}
-
 impl Rows<'_> {
-    ghost use Rattle.std.specs.Prelude.{◌<◌, Some, None};
+    ghost use Rattle.std.specs.Prelude.{◌+◌, ◌<◌, length, Some, None};
     ghost use Rattle.machine.specs.State.{cell, landing, lives, hold, born};
     ghost use Rattle.machine.specs.Merging.{end, die};
     ghost use Rattle.machine.specs.Settling.{pop};
@@ -238,7 +227,7 @@ impl Rows<'_> {
         self.words[at] = k;
         self.words[at + 1] = n as u32;
         let links = self.links;
-        clear(self.words, at + 3, links);
+        self.words[at + 3..at + 3 + links].fill(0);
         self.given = n + 1;
         n as u32
     }

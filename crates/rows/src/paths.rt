@@ -32,10 +32,7 @@ pub struct Lead {
 fn parts_in<'b>(token: Option<Token<'b>>) -> Option<(u32, &'b [u32], &'b [u32])>
     ensures { shown_parts result ≡ parts_in (shown_token token.entry) }
 {
-    let Some(token) = token else {
-        return None;
-    };
-    match token {
+    match token? {
         Token::Rule {
             first,
             left,

@@ -1,5 +1,5 @@
 // Merging, and settling the first that waits.
-ghost use Rattle.std.specs.Prelude.{◌≡◌, ◌+◌, ◌<◌, ◌≤◌, length, slice_index};
+ghost use Rattle.std.specs.Prelude.{◌≡◌, ◌+◌, ◌<◌, map, slice_index};
 ghost use Rattle.machine.specs.Loaded.{Loaded};
 ghost use Rattle.machine.specs.Merging.{merge};
 ghost use Rattle.machine.specs.Settling.{rehold, take_over, pull, drain, settled};
@@ -10,14 +10,13 @@ ghost use Rattle.rows.specs.Writes.{changed, changed_rows, swapped, over};
 
 use crate::{Rows, Slot};
 
-// Writes `new` in the place of `old`, in the `n` words from `at` on.
-fn swap(words: &mut [u32], at: usize, n: usize, old: u32, new: u32)
-    requires { at + n ≤ length words.old }
-    ensures { words.new ≡ changed (swapped old new) words.old at n }
+// Writes `new` in the place of `old`.
+fn swap(words: &mut [u32], old: u32, new: u32)
+    ensures { words.new ≡ map (swapped old new) words.old }
 {
-    for i in 0..n {
-        if words[at + i] == old {
-            words[at + i] = new;
+    for w in words.iter_mut() {
+        if *w == old {
+            *w = new;
         }
     }
 }
@@ -46,7 +45,7 @@ impl Rows<'_> {
     {
         let at = self.at(e, 0) + 3;
         let links = self.links;
-        swap(self.words, at, links, old, new);
+        swap(&mut self.words[at..at + links], old, new);
     }
 
     // The same in all cells.
@@ -69,7 +68,7 @@ impl Rows<'_> {
         self.swap_rows(v + 1, u + 1);
         let at = self.lands;
         let n = self.records;
-        swap(self.words, at, n, v + 1, u + 1);
+        swap(&mut self.words[at..at + n], v + 1, u + 1);
     }
 
     // The cell of `u` at `l` takes `w`; where it is filled, its content and `w` are merged.

@@ -1,5 +1,7 @@
 // Sweeping, in place: the new numbers are written into the slots of the waiting list, which are free while nothing waits;
 // then what cells and landings hold is renamed; then the rows of the living are moved down.
+// `Still` and `Ranked` are conditions: a struct that holds the rows by `&mut`, with the two as facts, would have each step say that it kept the reference.
+// The loops carry the next number by hand: the closure of a fold cannot write the rows.
 ghost use Rattle.std.specs.Prelude.{◌≡◌, ◌+◌, ◌-◌, ◌<◌, ◌≤◌, if◌then◌else◌, nat_eq};
 ghost use Rattle.machine.specs.State.{same};
 ghost use Rattle.machine.specs.Sweeping.{rank, swept};

@@ -1,11 +1,11 @@
 // Walking a path through the filled cells of a table.
 ghost use Rattle.std.specs.Prelude.{◌≡◌, []};
-ghost use Rattle.words.specs.Words.{fields};
 ghost use Rattle.machine.specs.Walking.{walk, walk_in};
 ghost use Rattle.rows.specs.View.{raw, view, slot};
 ghost use Rattle.rows.specs.Walks.{links, ended_at, side_of, shown_side};
 
 use crate::{Rows, Slot};
+use words::reading::fields_at;
 
 // How a side of a check goes: it ends at an entry, or only its last step is missing, or more is.
 #[derive(Clone, Copy)]
@@ -15,13 +15,6 @@ pub enum Side {
     Far,
 }
 
-// The link of a step's word.
-fn link(step: u32) -> u32
-    ensures { result ≡ fields step }
-{
-    step % 268435456
-}
-
 impl Rows<'_> {
     // Where the path leads from `e`, if each of its cells is filled.
     pub(crate) fn walk(&self, path: &[u32], e: u32) -> Option<u32>
@@ -29,10 +22,7 @@ impl Rows<'_> {
     {
         match path {
             [] => Some(e),
-            [first, rest @ ..] => match self.cell(e, link(*first)) {
-                None => None,
-                Some(x) => self.walk(rest, x),
-            },
+            [_, rest @ ..] => self.walk(rest, self.cell(e, fields_at(path, 0))?),
         }
     }
 
@@ -52,9 +42,9 @@ impl Rows<'_> {
     {
         match path {
             [] => Side::End(e),
-            [front @ .., last] => match self.walk(front, e) {
+            [front @ .., _] => match self.walk(front, e) {
                 None => Side::Far,
-                Some(x) => self.step(Slot::Cell(x, link(*last))),
+                Some(x) => self.step(Slot::Cell(x, fields_at(path, front.len()))),
             },
         }
     }

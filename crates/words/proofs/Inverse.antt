@@ -1,10 +1,10 @@
 -- What an accepted reading says of its parts.
-use Rattle.std.proofs.Common.{◌≡◌, ℕ, Bool, true, false, cond, Ok, Err, Result, refl, arith}
+use Rattle.std.proofs.Common.{◌≡◌, Bool, true, false, cond, Ok, Err, Result, refl}
 use Rattle.words.specs.declared.faults.WordFault.{WordFault}
 use Rattle.words.specs.Words.{then, worded}
 
 pub err_ok : {A E : Type 0} {e : E} {x : A} → Err e ≡ Ok x → ⊥
-err_ok {A} {E} {e} {x} p = let z : ◌≡◌ {A = ℕ} 0 1 = cc in omega arith
+err_ok p = cc
 
 pub then_ok : {A B E : Type 0} (r : Result A E) (f : A → Result B E) (y : B) → then r f ≡ Ok y → (x : A) × (r ≡ Ok x) × (f x ≡ Ok y)
 then_ok (Ok x) f y p = (x, refl, p)

@@ -30,7 +30,7 @@ prepended_twice ps qs (Err e) = refl
 -- what accepted items say
 items_parts : {X : Type 0} (b : Bool) (r : Result X SchemaFault) (g : X → Result (List X) SchemaFault) (l : X) (ls : List X)
     → cond b (then r (λ x. then (g x) (λ xs. Ok (x ∷ xs)))) (Ok []) ≡ Ok (l ∷ ls) → (b ≡ true) × (r ≡ Ok l) × (g l ≡ Ok ls)
-items_parts false r g l ls e = absurd (let z : ◌≡◌ {A = ℕ} 0 1 = cc in omega arith)
+items_parts false r g l ls e = absurd (cc)
 items_parts true r g l ls e =
     let x = then_ok r (λ x. then (g x) (λ xs. Ok (x ∷ xs))) (l ∷ ls) e in
     let y = then_ok (g x.0) (λ xs. Ok (x.0 ∷ xs)) (l ∷ ls) x.2 in
@@ -44,18 +44,28 @@ items_empty true (Err y) xs e = absurd (err_ok e)
 items_empty false r xs e = cc
 
 module _ {X : Type 0} (size : X → ℕ) (more : ℕ → ℕ → Bool) (f : ℕ → ℕ → Result X SchemaFault) where
+  -- a turn: an item, and what stands behind it
+  items_turned : (n c at next : ℕ) → more (n - c) at ≡ true → c < n → behind size at (f (n - c) at) ≡ Ok next
+      → (l : X) × (items size more f (n - c) at ≡ then (items size more f (n - (c + 1)) next) (λ ls. Ok (l ∷ ls))) × (next ≡ at + size l)
+  unfolding items
+  items_turned n c at next s h b =
+      let x = behind_ok size at next (f (n - c) at) b in
+      let m : n - c ≡ suc (n - (c + 1)) = left_one n c h in (
+        x.0,
+        ap (λ k. items size more f k at) m
+            ∙ ap (λ k. cond k (then (f (suc (n - (c + 1))) at) (λ l. then (items size more f (n - (c + 1)) (at + size l)) (λ ls. Ok (l ∷ ls)))) (Ok [])) (ap (λ k. more k at) (sym m) ∙ s)
+            ∙ ap (λ r. then r (λ l. then (items size more f (n - (c + 1)) (at + size l)) (λ ls. Ok (l ∷ ls)))) (ap (λ k. f k at) (sym m) ∙ x.1)
+            ∙ ap (λ p. then (items size more f (n - (c + 1)) p) (λ ls. Ok (x.0 ∷ ls))) (sym x.2),
+        x.2,
+      )
+
   pub items_more : (n c at next : ℕ) → more (n - c) at ≡ true → c < n → behind size at (f (n - c) at) ≡ Ok next
       → outlined size at (items size more f (n - c) at) ≡ prepended (at ∷ []) (outlined size next (items size more f (n - (c + 1)) next))
-  unfolding items
   items_more n c at next s h b =
-      let x = behind_ok size at next (f (n - c) at) b in
-      let m : n - c ≡ suc (n - (c + 1)) = left_one n c h in
-      ap (λ k. outlined size at (items size more f k at)) m
-      ∙ ap (λ k. outlined size at (cond k (then (f (suc (n - (c + 1))) at) (λ l. then (items size more f (n - (c + 1)) (at + size l)) (λ ls. Ok (l ∷ ls)))) (Ok []))) (ap (λ k. more k at) (sym m) ∙ s)
-      ∙ ap (λ k. outlined size at (then (f k at) (λ l. then (items size more f (n - (c + 1)) (at + size l)) (λ ls. Ok (l ∷ ls))))) (sym m)
-      ∙ ap (λ r. outlined size at (then r (λ l. then (items size more f (n - (c + 1)) (at + size l)) (λ ls. Ok (l ∷ ls))))) x.1
-      ∙ outlined_more size at x.0 (items size more f (n - (c + 1)) (at + size x.0))
-      ∙ ap (λ p. prepended (at ∷ []) (outlined size p (items size more f (n - (c + 1)) p))) (sym x.2)
+      let t = items_turned n c at next s h b in
+      ap (outlined size at) t.1
+      ∙ outlined_more size at t.0 (items size more f (n - (c + 1)) next)
+      ∙ ap (λ p. prepended (at ∷ []) (outlined size p (items size more f (n - (c + 1)) next))) (sym t.2)
 
   stop_at : (m at : ℕ) (y : SchemaFault) → more m at ≡ true → f m at ≡ Err y → items size more f m at ≡ Err y
   unfolding items
@@ -132,17 +142,9 @@ plus_none (Err e) = refl
 module _ {X : Type 0} (size : X → ℕ) (more : ℕ → ℕ → Bool) (f : ℕ → ℕ → Result X SchemaFault) where
   pub count_turn : (n c at next : ℕ) → more (n - c) at ≡ true → c < n → behind size at (f (n - c) at) ≡ Ok next
       → plus (c + 1) (sized (items size more f (n - (c + 1)) next)) ≡ plus c (sized (items size more f (n - c) at))
-  unfolding items
   count_turn n c at next s h b =
-      let x = behind_ok size at next (f (n - c) at) b in
-      let m : n - c ≡ suc (n - (c + 1)) = left_one n c h in
-      ap (λ p. plus (c + 1) (sized (items size more f (n - (c + 1)) p))) x.2
-      ∙ sym (
-      ap (λ k. plus c (sized (items size more f k at))) m
-      ∙ ap (λ k. plus c (sized (cond k (then (f (suc (n - (c + 1))) at) (λ l. then (items size more f (n - (c + 1)) (at + size l)) (λ ls. Ok (l ∷ ls)))) (Ok [])))) (ap (λ k. more k at) (sym m) ∙ s)
-      ∙ ap (λ k. plus c (sized (then (f k at) (λ l. then (items size more f (n - (c + 1)) (at + size l)) (λ ls. Ok (l ∷ ls)))))) (sym m)
-      ∙ ap (λ r. plus c (sized (then r (λ l. then (items size more f (n - (c + 1)) (at + size l)) (λ ls. Ok (l ∷ ls)))))) x.1
-      ∙ plus_more c x.0 (items size more f (n - (c + 1)) (at + size x.0)))
+      let t = items_turned size more f n c at next s h b in
+      sym (ap (λ r. plus c (sized r)) t.1 ∙ plus_more c t.0 (items size more f (n - (c + 1)) next))
 
   pub count_stop : (m c at : ℕ) (y : SchemaFault) → more m at ≡ true → behind size at (f m at) ≡ Err y → plus c (sized (items size more f m at)) ≡ Err y
   unfolding plus
@@ -163,17 +165,12 @@ ended_more size at l (Err e) = refl
 module _ {X : Type 0} (size : X → ℕ) (more : ℕ → ℕ → Bool) (f : ℕ → ℕ → Result X SchemaFault) where
   pub ended_turn : (n c at next : ℕ) → more (n - c) at ≡ true → c < n → behind size at (f (n - c) at) ≡ Ok next
       → ended size next (items size more f (n - (c + 1)) next) ≡ ended size at (items size more f (n - c) at)
-  unfolding items
   ended_turn n c at next s h b =
-      let x = behind_ok size at next (f (n - c) at) b in
-      let m : n - c ≡ suc (n - (c + 1)) = left_one n c h in
-      ap (λ p. ended size p (items size more f (n - (c + 1)) p)) x.2
-      ∙ sym (
-      ap (λ k. ended size at (items size more f k at)) m
-      ∙ ap (λ k. ended size at (cond k (then (f (suc (n - (c + 1))) at) (λ l. then (items size more f (n - (c + 1)) (at + size l)) (λ ls. Ok (l ∷ ls)))) (Ok []))) (ap (λ k. more k at) (sym m) ∙ s)
-      ∙ ap (λ k. ended size at (then (f k at) (λ l. then (items size more f (n - (c + 1)) (at + size l)) (λ ls. Ok (l ∷ ls))))) (sym m)
-      ∙ ap (λ r. ended size at (then r (λ l. then (items size more f (n - (c + 1)) (at + size l)) (λ ls. Ok (l ∷ ls))))) x.1
-      ∙ ended_more size at x.0 (items size more f (n - (c + 1)) (at + size x.0)))
+      let t = items_turned size more f n c at next s h b in
+      sym (
+      ap (ended size at) t.1
+      ∙ ended_more size at t.0 (items size more f (n - (c + 1)) next)
+      ∙ ap (λ p. ended size p (items size more f (n - (c + 1)) next)) (sym t.2))
 
   pub ended_stop : (m at : ℕ) (y : SchemaFault) → more m at ≡ true → behind size at (f m at) ≡ Err y → ended size at (items size more f m at) ≡ Err y
   ended_stop m at y s b = ap (ended size at) (stop_at size more f m at y s (behind_err size at y (f m at) b))
@@ -196,7 +193,7 @@ module _ {X : Type 0} (size : X → ℕ) (more : ℕ → ℕ → Bool) (f : ℕ 
       let x = then_ok (f (suc m) at) (λ x. then (items size more f m (at + size x)) (λ xs. Ok (x ∷ xs))) [] a in
       let y = then_ok (items size more f m (at + size x.0)) (λ xs. Ok (x.0 ∷ xs)) [] x.2 in
       let q = y.2 in
-      let z : ◌≡◌ {A = ℕ} 0 1 = cc in omega arith
+      cc
 
   pub items_full : (m at : ℕ) (xs : List X) → items size more f m at ≡ Ok xs → length xs ≡ m
   items_full zero at xs e = ap length (items_zero size more f at xs e)

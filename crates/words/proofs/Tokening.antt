@@ -5,8 +5,8 @@ use Rattle.std.proofs.lemmas.Bool.Decides.{nat_tests}
 use Rattle.words.specs.declared.faults.WordFault.TheVariants.{Missing}
 use Rattle.words.specs.declared.tags.Tag.{Tag}
 use Rattle.words.specs.Words.{then}
-use Rattle.words.specs.Tags.{tagged, number, size}
-use Rattle.words.specs.Tokens.{Shown, rule, link_map, tag_of, part, within, token_of, tagged_token, token}
+use Rattle.words.specs.Tags.{tagged, number, size, tag_of}
+use Rattle.words.specs.Tokens.{Shown, rule, link_map, part, within, token_of, tagged_token, token}
 use Rattle.words.proofs.Single.{Stood, word_read}
 use Rattle.words.proofs.Standing.{Stands, front, back, stands_stood}
 use Rattle.words.specs.declared.tags.Tag.TheVariants as tag

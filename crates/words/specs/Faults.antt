@@ -1,5 +1,5 @@
 -- Refusals: the number and the layer of each, and the fault that each reader's answer is.
-use Rattle.std.specs.Prelude.{ℕ, ◌+◌, ◌*◌, min}
+use Rattle.std.specs.Prelude.{ℕ, ◌+◌, ◌*◌, min, List, ◌++◌, codes, decimal}
 use Rattle.words.specs.declared.faults.Refusal.{Refusal}
 use Rattle.words.specs.declared.faults.Refusal.TheVariants.{State, Missing, Wrong, Limit, Unknown, Unjoined, Shape, Large, Leads, Waiting, NotLiving, Filled, Full, NoneWaits, Incomplete, Memory}
 use Rattle.words.specs.declared.faults.Fault.{Fault}
@@ -48,12 +48,36 @@ layer NoneWaits = 4
 layer Incomplete = 4
 layer Memory = 4
 
+-- what a person is told of a refusal
+abbrev pub reason : Refusal → List ℕ
+reason State = codes "the table is loaded already, or not loaded"
+reason Missing = codes "a word is missing"
+reason Wrong = codes "a wrong tag, side, bit or end count, or a word after the end"
+reason Limit = codes "a limit is passed"
+reason Unknown = codes "an unknown or misordered number"
+reason Unjoined = codes "a path does not join, or ends at a wrong kind"
+reason Shape = codes "the register has another shape than the source schema"
+reason Large = codes "the register has too many records"
+reason Leads = codes "a link leads a record to nothing, or to an uncounted one"
+reason Waiting = codes "an entry waits"
+reason NotLiving = codes "an entry or a number that is not known"
+reason Filled = codes "the place is filled already"
+reason Full = codes "the table is full: work words for more entries are wanted"
+reason NoneWaits = codes "nothing waits"
+reason Incomplete = codes "the table is not complete: the budget is spent"
+reason Memory = codes "there are too few words"
+
 abbrev pub fault_of : Refusal → ℕ → Fault
 fault_of r p = record { refusal = r; place = p }
 
 -- a fault as a word; a place above the field is shown as the largest that fits
 abbrev pub fault_word : Fault → ℕ
 fault_word f = tagged tag.Fault (layer f.refusal * 16777216 + number f.refusal * 65536 + min f.place 65535)
+
+-- what a person is told of a fault
+abbrev pub fault_text : Fault → List ℕ
+fault_text f =
+    reason f.refusal ++ (codes " (number " ++ (decimal (number f.refusal) ++ (codes ", layer " ++ (decimal (layer f.refusal) ++ (codes ", place " ++ (decimal f.place ++ codes ")"))))))
 
 abbrev pub word_fault : WordFault → Fault
 word_fault (word.Missing p) = fault_of Missing p

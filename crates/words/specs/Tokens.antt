@@ -1,12 +1,12 @@
 -- The token at a place: a word's fields by name, and its path as a part of the words.
-use Rattle.std.specs.Prelude.{ℕ, ◌+◌, ◌/◌, ◌%◌, cond, List, [], ◌∷◌, length, take, drop, Some, None, Ok, Err, Option, Result, ◌==◌, nat_lt, slice_index}
+use Rattle.std.specs.Prelude.{ℕ, ◌+◌, ◌/◌, ◌%◌, cond, List, length, take, drop, Some, None, Ok, Err, Option, Result, nat_lt, slice_index}
 use Rattle.words.specs.declared.faults.WordFault.{WordFault}
 use Rattle.words.specs.declared.faults.WordFault.TheVariants.{Missing, Wrong}
 use Rattle.words.specs.declared.tags.Tag.{Tag}
 use Rattle.words.specs.declared.tags.Tag.TheVariants as tag
 use Rattle.words.specs.declared.tokens.Token.{Token}
 use Rattle.words.specs.declared.tokens.Token.TheVariants.{Schema, Link, Rule, Step, KindMap, LinkMap, End, Register, Count, RegisterLink, Record, Landings, Fault}
-use Rattle.words.specs.Tags.{number}
+use Rattle.words.specs.Tags.{tag_of}
 use Rattle.words.specs.Words.{tag, word, then}
 
 -- a token without its references: the parts of the words in their place
@@ -43,15 +43,6 @@ shown (Fault layer n place) = fault layer n place
 abbrev pub told : Result Token WordFault → Result Shown WordFault
 told (Ok t) = Ok (shown t)
 told (Err e) = Err e
-
--- the tag of a number
-abbrev pub tag_in : ℕ → List Tag → Option Tag
-tag_in n [] = None
-tag_in n (t ∷ ts) = cond (n == number t) (Some t) (tag_in n ts)
-
-abbrev pub tag_of : ℕ → Option Tag
-tag_of n =
-    tag_in n (tag.Schema ∷ tag.Link ∷ tag.Rule ∷ tag.Step ∷ tag.KindMap ∷ tag.LinkMap ∷ tag.End ∷ tag.Register ∷ tag.Count ∷ tag.RegisterLink ∷ tag.Record ∷ tag.Landings ∷ tag.Fault ∷ [])
 
 -- the part of the words that begins at a place
 abbrev pub part : List ℕ → ℕ → ℕ → List ℕ

@@ -9,15 +9,9 @@ use crate::tags::Tag;
 pub fn word(words: &[u32], at: usize, tag: Tag) -> Result<u32, WordFault>
     ensures { result ≡ word_of tag words.now at }
 {
-    if at >= words.len() {
-        return Err(WordFault::Missing(at));
-    }
-    let w = words[at];
-    if w / 268435456 != tag.number() {
-        return Err(WordFault::Wrong(at));
-    }
-    let value = w % 268435456;
-    if value >= tag.size() {
+    let word = words.get(at).ok_or(WordFault::Missing(at))?;
+    let value = word % 268435456;
+    if word / 268435456 != tag.number() || value >= tag.size() {
         return Err(WordFault::Wrong(at));
     }
     Ok(value)
@@ -27,18 +21,16 @@ pub fn word(words: &[u32], at: usize, tag: Tag) -> Result<u32, WordFault>
 pub fn fields_at(words: &[u32], at: usize) -> u32
     ensures { result ≡ fields (slice_index words.now at) }
 {
-    if at < words.len() {
-        words[at] % 268435456
-    } else {
-        0
-    }
+    words.get(at).map_or(0, |word| word % 268435456)
 }
 
 // Whether the word at a place has that tag.
 pub fn starts(words: &[u32], at: usize, tag: Tag) -> bool
     ensures { result ≡ starts_of tag words.now at }
 {
-    at < words.len() && words[at] / 268435456 == tag.number()
+    words
+        .get(at)
+        .is_some_and(|word| word / 268435456 == tag.number())
 }
 
 // The end of a file, which counts the words before it; tells its place.

@@ -1,6 +1,6 @@
 // A word as a token: its fields by name, and its path as a part of the words.
 ghost use Rattle.std.specs.Prelude.{◌≡◌, ◌<◌, length};
-ghost use Rattle.words.specs.Tokens.{tag_of, told as told_of, token_of, token as read_token};
+ghost use Rattle.words.specs.Tokens.{told as told_of, token_of, token as read_token};
 
 use crate::faults::WordFault;
 use crate::reading::word;
@@ -53,41 +53,16 @@ pub enum Token<'a> {
     },
 }
 
-// The tag of a number.
-fn tag_of(number: u32) -> Option<Tag>
-    ensures { result ≡ tag_of number }
-{
-    match number {
-        1 => Some(Tag::Schema),
-        2 => Some(Tag::Link),
-        3 => Some(Tag::Rule),
-        4 => Some(Tag::Step),
-        5 => Some(Tag::KindMap),
-        6 => Some(Tag::LinkMap),
-        7 => Some(Tag::End),
-        8 => Some(Tag::Register),
-        9 => Some(Tag::Count),
-        10 => Some(Tag::RegisterLink),
-        11 => Some(Tag::Record),
-        12 => Some(Tag::Landings),
-        15 => Some(Tag::Fault),
-        _ => None,
-    }
-}
-
 // A rule and its two paths, if all their words are there.
 fn rule_token<'a>(words: &'a [u32], at: usize, v: u32) -> Result<Token<'a>, WordFault>
     requires { at < length words.now }
     ensures { told_of result ≡ token_of Tag.Rule words.now at v }
 {
-    let start = at + 1;
     let n = (v / 256 % 256) as usize;
     let m = (v % 256) as usize;
-    if words.len() - start < n + m {
-        return Err(WordFault::Missing(words.len()));
-    }
-    let left = &words[start..start + n];
-    let right = &words[start + n..start + n + m];
+    let missing = WordFault::Missing(words.len());
+    let left = words[at + 1..].get(..n).ok_or(missing)?;
+    let right = words[at + 1 + n..].get(..m).ok_or(missing)?;
     Ok(Token::Rule {
         first: v / 65536,
         left,
@@ -101,12 +76,9 @@ fn map_token<'a>(words: &'a [u32], at: usize, v: u32) -> Result<Token<'a>, WordF
     requires { at < length words.now }
     ensures { told_of result ≡ token_of Tag.LinkMap words.now at v }
 {
-    let start = at + 1;
     let n = (v % 256) as usize;
-    if words.len() - start < n {
-        return Err(WordFault::Missing(words.len()));
-    }
-    let path = &words[start..start + n];
+    let missing = WordFault::Missing(words.len());
+    let path = words[at + 1..].get(..n).ok_or(missing)?;
     Ok(Token::LinkMap {
         link: v / 256,
         path,
@@ -160,14 +132,8 @@ fn fields_token<'a>(words: &'a [u32], at: usize, tag: Tag, v: u32) -> Result<Tok
 pub fn token_at<'a>(words: &'a [u32], at: usize) -> Result<Token<'a>, WordFault>
     ensures { told_of result ≡ read_token words.now at }
 {
-    if at >= words.len() {
-        return Err(WordFault::Missing(at));
-    }
-    match tag_of(words[at] / 268435456) {
-        Some(tag) => {
-            let v = word(words, at, tag)?;
-            fields_token(words, at, tag, v)
-        }
-        None => Err(WordFault::Wrong(at)),
-    }
+    let first = words.get(at).ok_or(WordFault::Missing(at))?;
+    let tag = Tag::try_from(first / 268435456).map_err(|_| WordFault::Wrong(at))?;
+    let fields = word(words, at, tag)?;
+    fields_token(words, at, tag, fields)
 }

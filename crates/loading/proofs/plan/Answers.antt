@@ -1,57 +1,42 @@
-use Rattle.std.proofs.Common.{◌≡◌, ◌+◌, ◌-◌, length, refl, ap, ◌∙◌, arith}
+use Rattle.std.proofs.Common.{◌≡◌, length, sym, ◌+◌, ◌/◌, ◌≤◌, min, refl, ap, ◌∙◌, arith}
 use Rattle.machine.specs.Loading.{sum}
+use Rattle.registers.specs.Writing.{upto}
 use Rattle.loading.specs.LoadedWords.{problem_in, leaving}
-use Rattle.loading.proofs.LoadSource.{sourced, targets, refused_shape, refused_large, refused_leads, refused_memory, planned}
+use Rattle.loading.proofs.LoadLists.{sized, stacked, piled, piled_behind, piled_size}
+use Rattle.loading.proofs.LoadSource.{sourced, refused_shape, refused_large, refused_leads, refused_memory, planned}
 use Rattle.loading.proofs.plan.Goals as goal
 
-pub other_shape-requires : goal.other_shape-requires
-other_shape-requires g c = sourced c.args.problem.now c.in_ok-found.found c.in_ok-found.ensures.told
-
-pub stack-stacked-requires : goal.stack-stacked-requires
-stack-stacked-requires g c = let s = sourced c.args.problem.now c.in_ok-found.found c.in_ok-found.ensures.told in (s.few_kinds, s.short)
-
-pub lowest_stray-requires : goal.lowest_stray-requires
-lowest_stray-requires g c = sourced c.args.problem.now c.in_ok-found.found c.in_ok-found.ensures.told
-
-pub place_leads-placed-requires : goal.place_leads-placed-requires
-place_leads-placed-requires g c =
-    let s = sourced c.args.problem.now c.in_ok-found.found c.in_ok-found.ensures.told in
-    (s, omega (arith, s.short, c.stack-stacked.ensures.behind, c.if-records-gt4095.false))
-
-pub entries-requires : goal.entries-requires
-entries-requires g c = (targets c.args.problem.now c.in_ok-found.found c.in_ok-found.ensures.told).1
+pub invariant_of-offer : goal.invariant_of-offer
+invariant_of-offer g c = record { sourced = sourced _ c.in_ok-found.found c.in_ok-found.ensures.told }
 
 pub returns-then-other_shape : goal.returns-then-other_shape
-returns-then-other_shape g c =
-    refused_shape c.args.problem.now c.in_ok-found.found c.in_ok-found.ensures.told c.args.work (g.R.Register.meaning c.args.source.now) c.if-other_shape.ensures
+returns-then-other_shape g c = refused_shape _ c.in_ok-found.found c.in_ok-found.ensures.told _ _ c.if-other_shape.ensures
 
 pub returns-then-records-gt4095 : goal.returns-then-records-gt4095
 returns-then-records-gt4095 g c =
-    let m = g.R.Register.meaning c.args.source.now in
-    let n : c.stack-stacked.result.next - length c.args.problem.now ≡ sum m.count c.stack-stacked.result.source.kinds = omega (arith, c.stack-stacked.ensures.behind) in
-    refused_large c.args.problem.now c.in_ok-found.found c.in_ok-found.ensures.told c.args.work m c.if-other_shape.ensures
-    (c.stack-stacked.result.next - length c.args.problem.now) (n ∙ ap (sum m.count) c.stack-stacked.ensures.same) c.if-records-gt4095.true
+    refused_large _ c.in_ok-found.found c.in_ok-found.ensures.told _ _ c.if-other_shape.ensures _ (piled_size _ _ _ _ c.counts-counts.ensures _ c.stack-next.ensures.behind) c.if-records-gt4095.true
 
 pub returns-in-Some : goal.returns-in-Some
 returns-in-Some g c =
-    let m = g.R.Register.meaning c.args.source.now in
-    let n : c.stack-stacked.result.next - length c.args.problem.now ≡ sum m.count c.stack-stacked.result.source.kinds = omega (arith, c.stack-stacked.ensures.behind) in
-    refused_leads c.args.problem.now c.in_ok-found.found c.in_ok-found.ensures.told c.args.work m c.if-other_shape.ensures
-    (c.stack-stacked.result.next - length c.args.problem.now) (n ∙ ap (sum m.count) c.stack-stacked.ensures.same) c.if-records-gt4095.false c.in-Some.link c.in-Some.ensures
+    refused_leads _ c.in_ok-found.found c.in_ok-found.ensures.told _ _ c.if-other_shape.ensures _ (piled_size _ _ _ _ c.counts-counts.ensures _ c.stack-next.ensures.behind)
+    c.if-records-gt4095.false c.in-Some.link c.in-Some.ensures
 
-pub returns-then-base-work : goal.returns-then-base-work
-returns-then-base-work g c =
-    let m = g.R.Register.meaning c.args.source.now in
-    let ws = c.args.problem.now in
-    let f = c.in_ok-found.found in
-    let n : c.stack-stacked.result.next - length ws ≡ sum m.count c.stack-stacked.result.source.kinds = omega (arith, c.stack-stacked.ensures.behind) in
-    let b : c.place_leads-placed.result.next ≡ length ws + (c.stack-stacked.result.next - length ws) + sum (leaving (problem_in ws) m.count) f.source.links =
-    omega (arith, c.stack-stacked.ensures.behind, c.place_leads-placed.ensures.behind) in
-    refused_memory ws f c.in_ok-found.ensures.told c.args.work m c.if-other_shape.ensures
-    (c.stack-stacked.result.next - length ws) (n ∙ ap (sum m.count) c.stack-stacked.ensures.same) c.if-records-gt4095.false c.in_default.ensures c.place_leads-placed.result.next b c.if-base-work.true
+pub returns-in_default-checked_sub : goal.returns-in_default-checked_sub
+returns-in_default-checked_sub g c =
+    let f = leaving (problem_in c.args.problem.now) (g.R.Register.meaning c.args.source.now).count in
+    let b : c.pile-base.result.1 ≡ c.stack-next.result.1 + sum f c.in_ok-found.found.source.links = piled_behind _ _ _ _ c.leavings.ensures _ c.pile-base.ensures.behind in
+    let h : c.pile-base.result.1 ≤ c.args.work → ⊥ = c.in_default-checked_sub.ensures in
+    refused_memory _ c.in_ok-found.found c.in_ok-found.ensures.told _ _ c.if-other_shape.ensures _ (piled_size _ _ _ _ c.counts-counts.ensures _ c.stack-next.ensures.behind)
+    c.if-records-gt4095.false c.in_default.ensures c.pile-base.result.1 (omega (arith, c.stack-next.ensures.behind)) (omega arith)
 
 pub returns : goal.returns
 returns g c =
-    planned c.args.work c.args.problem.now (g.R.Register.meaning c.args.source.now) _ c.in_ok-found.ensures.told c.stack-stacked.result.next
-    (g.met.R.Register.lawful c.args.source.now) c.if-other_shape.ensures refl c.stack-stacked.ensures.same c.stack-stacked.ensures.counts c.stack-stacked.ensures.starts c.stack-stacked.ensures.behind refl
-    c.if-records-gt4095.false c.in_default.ensures c.place_leads-placed.ensures.places c.place_leads-placed.ensures.behind c.if-base-work.false refl c.entries.ensures
+    let m = g.R.Register.meaning c.args.source.now in
+    let k = c.stack-next.ensures.kinds ∙ sized _ _ (length c.args.problem.now) _ c.counts-counts.ensures in
+    planned c.args.work c.args.problem.now m _ c.in_ok-found.ensures.told c.stack-next.result.1
+    (g.met.R.Register.lawful c.args.source.now) c.if-other_shape.ensures refl k
+    (c.stack-next.ensures.counts ∙ c.counts-counts.ensures ∙ ap (upto m.count) (sym k))
+    (c.stack-next.ensures.starts ∙ stacked _ _ _ _ c.counts-counts.ensures ∙ ap (upto (λ i. length c.args.problem.now + sum m.count i)) (sym k))
+    (piled_behind _ _ _ _ c.counts-counts.ensures _ c.stack-next.ensures.behind ∙ ap (λ n. length c.args.problem.now + sum m.count n) (sym k)) refl c.if-records-gt4095.false c.in_default.ensures
+    (piled _ _ _ _ c.leavings.ensures _ c.pile-base.ensures.starts) (piled_behind _ _ _ _ c.leavings.ensures _ c.pile-base.ensures.behind) c.in-Some-checked_sub.ensures.0 refl
+    (c.entries.ensures ∙ ap (λ r. min 65535 (r / (c.in_ok-found.found.target.links + 3))) c.in-Some-checked_sub.ensures.1)

@@ -1,9 +1,8 @@
-use Rattle.std.proofs.Common.{refl, arith}
-use Rattle.loading.proofs.LoadLists.{put_none, put_more}
+use Rattle.std.proofs.Common.{◌∙◌}
+use Rattle.registers.specs.Writing.{upto}
+use Rattle.registers.proofs.WrittenLists.{upto_length}
+use Rattle.loading.proofs.LoadLists.{zeros, put_part}
 use Rattle.loading.proofs.copies.clear.Goals as goal
 
-pub loop-i-init : goal.loop-i-init
-loop-i-init c = put_none _ _ _
-
-pub loop-i-preserved : goal.loop-i-preserved
-loop-i-preserved c = put_more _ c.args.at c.loop-i.i _ _ _ _ refl (omega arith) (omega arith) refl c.loop-i.invariant
+pub returns : goal.returns
+returns c = put_part _ _ _ _ (upto (λ i. 0)) c.requires (upto_length _ _) (c.fill.ensures.after (λ y e. e) ∙ zeros _)

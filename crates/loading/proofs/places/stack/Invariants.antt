@@ -1,12 +1,11 @@
-use Rattle.std.proofs.Common.{◌≡◌, ◌+◌, ◌*◌, ◌≤◌, length, take}
-use Rattle.registers.specs.Writing.{upto}
-use Rattle.machine.specs.Loading.{sum}
+use Rattle.std.proofs.Common.{◌≡◌, length, take, map}
+use Rattle.bounded.specs.Listed.{listed}
+use Rattle.rows.specs.declared.SourceKind.{SourceKind}
 use Rattle.loading.proofs.places.stack.Given as goal
 
-abbrev pub invariant-loop-kind : goal.invariant-loop-kind
-invariant-loop-kind g l =
-    (length l.counts ≡ 32) × (length l.starts ≡ 32)
-    × (take l.kind l.counts ≡ upto (g.R.Register.meaning l.source).count l.kind)
-    × (take l.kind l.starts ≡ upto (λ k. l.lands + sum (g.R.Register.meaning l.source).count k) l.kind)
-    × (l.next ≡ l.lands + sum (g.R.Register.meaning l.source).count l.kind)
-    × (l.next ≤ l.lands + l.kind * 4294967296)
+abbrev pub invariant-loop-k : goal.invariant-loop-k
+invariant-loop-k l = record {
+  size : length (listed l.kinds) ≡ l.k;
+  counts : map (λ (k : SourceKind). k.records) (listed l.kinds) ≡ take l.k l.counts;
+  starts : map (λ (k : SourceKind). k.start) (listed l.kinds) ≡ take l.k l.starts;
+}

@@ -1,4 +1,4 @@
-use Rattle.std.proofs.Common.{sym, ap, ◌∙◌, arith, ltb-false, ltb-true}
+use Rattle.std.proofs.Common.{◌≡◌, None, rules, sym, ap, ◌∙◌, arith, ltb-false, ltb-true}
 use Rattle.rows.specs.View.{view}
 use Rattle.rows.specs.Walks.{ended_at}
 use Rattle.rows.proofs.Walks.{walk_empty, first_empty, first_filled}
@@ -7,8 +7,11 @@ use Rattle.rows.proofs.Rows.+walk.Goals as goal
 pub returns-in-empty : goal.returns-in-empty
 returns-in-empty t c = ap ended_at (walk_empty (view c.args.self.now).held c.args.path.now c.args.e (omega (arith, ltb-true)))
 
-pub returns-in-None : goal.returns-in-None
-returns-in-None t c = first_empty (view c.args.self.now).held c.args.path.now c.args.e c.link.result (omega (arith, ltb-false)) c.link.ensures (sym c.in-None.ensures)
+pub returns-in_err-cell-in-len1-up : goal.returns-in_err-cell-in-len1-up
+returns-in_err-cell-in-len1-up t c =
+    let e : c.from_residual.result ≡ None = search rules in
+    e ∙ first_empty (view c.args.self.now).held c.args.path.now c.args.e c.fields_at.result (omega (arith, ltb-false)) c.fields_at.ensures (sym c.in_err-cell-in-len1-up.ensures)
 
-pub returns-in-Some : goal.returns-in-Some
-returns-in-Some t c = c.walk.ensures ∙ ap ended_at (first_filled (view c.args.self.now).held c.args.path.now c.args.e c.link.result c.in-Some.x (omega (arith, ltb-false)) c.link.ensures (sym c.in-Some.ensures))
+pub returns-in_ok-cell-in-len1-up : goal.returns-in_ok-cell-in-len1-up
+returns-in_ok-cell-in-len1-up t c =
+    c.walk.ensures ∙ ap ended_at (first_filled (view c.args.self.now).held c.args.path.now c.args.e c.fields_at.result _ (omega (arith, ltb-false)) c.fields_at.ensures (sym c.in_ok-cell-in-len1-up.ensures))

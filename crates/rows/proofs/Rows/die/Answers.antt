@@ -1,10 +1,7 @@
-use Rattle.std.proofs.Common.{arith, rules}
+use Rattle.std.proofs.Common.{arith}
 use Rattle.rows.specs.View.{raw}
 use Rattle.rows.proofs.Keeps.{becomes_dead, wait_room}
 use Rattle.rows.proofs.Rows.die.Goals as goal
-
-pub overflow_add-last : goal.overflow_add-last
-overflow_add-last c = let h = wait_room (raw c.args.self.now) c.requires.tidy c.args.v c.args.u c.requires.v_lt_given c.requires.u_lt_v c.requires.v_lives in search rules
 
 pub at-slot-requires : goal.at-slot-requires
 at-slot-requires c = record { e_lt_capacity = wait_room (raw c.args.self.now) c.requires.tidy c.args.v c.args.u c.requires.v_lt_given c.requires.u_lt_v c.requires.v_lives; j_bound = omega arith }

@@ -8,7 +8,3 @@ use Rattle.rows.proofs.Rows.link_path.Goals as goal
 pub returns-in-Some : goal.returns-in-Some
 returns-in-Some c L st =
     ap (λ o. path_in (linked o)) c.in-Some.ensures ∙ map_stands L (raw c.args.self.now) c.args.found.now st c.args.i (shown_token c.link_map_at.result) c.link_map_at.ensures.known
-
-pub returns-in-None : goal.returns-in-None
-returns-in-None c L st =
-    ap (λ o. path_in (linked o)) c.in-None.ensures ∙ map_stands L (raw c.args.self.now) c.args.found.now st c.args.i (shown_token c.link_map_at.result) c.link_map_at.ensures.known

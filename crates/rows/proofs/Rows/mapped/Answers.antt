@@ -1,11 +1,8 @@
 use Rattle.words.specs.Words.{fields}
-use Rattle.std.proofs.Common.{◌≡◌, ◌+◌, get_or, ◌%◌, sym, ap, ◌∙◌, arith, rules}
+use Rattle.std.proofs.Common.{◌≡◌, ◌+◌, get_or, ◌%◌, sym, ap, ◌∙◌, rules}
 use Rattle.rows.specs.View.{raw}
-use Rattle.rows.proofs.Outline.{source_kinds_are, map_in, map_kind}
+use Rattle.rows.proofs.Outline.{map_in, map_kind}
 use Rattle.rows.proofs.Rows.mapped.Goals as goal
-
-pub returns-then-k-found : goal.returns-then-k-found
-returns-then-k-found c L st h = absurd (omega (arith, h, c.if-k-found.true, source_kinds_are L (raw c.args.self.now) c.args.found.now st))
 
 pub returns : goal.returns
 returns c L st h =

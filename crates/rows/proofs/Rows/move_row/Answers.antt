@@ -1,19 +1,7 @@
 use Rattle.std.proofs.Common.{◌+◌, ◌-◌, arith}
 use Rattle.rows.specs.View.{raw}
-use Rattle.rows.proofs.Places.{place_fits}
 use Rattle.rows.proofs.SweepMoves.{goes_move}
 use Rattle.rows.proofs.Rows.move_row.Goals as goal
-
-pub copy_within-requires : goal.copy_within-requires
-copy_within-requires c = let t = c.args.self.now in
-    let f = place_fits t.base t.links t.capacity _ c.args.e (t.links + 2) c.requires.still.fits.room (omega (arith, c.requires.still.fits.few)) (omega arith) in
-    let g = place_fits t.base t.links t.capacity _ c.args.k (t.links + 2) c.requires.still.fits.room (omega (arith, c.requires.still.fits.few)) (omega arith) in
-    record { start_le_end = omega arith; in_bounds = omega (arith, c.at-from.ensures.is, f); dest_in_bounds = omega (arith, c.at-to.ensures.is, g); not_exhausted = tt }
-
-pub bounds-self-to : goal.bounds-self-to
-bounds-self-to c = let t = c.args.self.now in
-    let g = place_fits t.base t.links t.capacity _ c.args.k (t.links + 2) c.requires.still.fits.room (omega (arith, c.requires.still.fits.few)) (omega arith) in
-    omega (arith, c.at-to.ensures.is, g, c.copy_within.ensures.len)
 
 pub returns : goal.returns
 returns c =

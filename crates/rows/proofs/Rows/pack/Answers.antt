@@ -1,11 +1,10 @@
-use Rattle.std.proofs.Common.{◌≡◌, ◌+◌, cond, eqb, sym, ap, ◌∙◌, arith}
+use Rattle.std.proofs.Common.{◌+◌, cond, eqb, sym, ap, ◌∙◌, arith}
 use Rattle.machine.specs.State.{State}
-use Rattle.machine.specs.Sweeping.{rank}
 use Rattle.machine.proofs.Ranks.{rank_small}
 use Rattle.rows.specs.Sweeps.{packed}
 use Rattle.rows.specs.View.{raw, view}
 use Rattle.rows.proofs.SweepStates.{rank_none, packed_none, packed_more}
-use Rattle.rows.proofs.SweepSteps.{goes_none, goes_then, goes_to}
+use Rattle.rows.proofs.SweepSteps.{goes_none, goes_then}
 use Rattle.rows.proofs.Rows.pack.Goals as goal
 
 pub loop-e-init : goal.loop-e-init
@@ -27,9 +26,3 @@ loop-e-preserved c =
       goes_then (raw c.args.self.now) (raw c.loop-e.self) (raw c.pack_one-k.new.self) _ _ _ i.0 o.goes m.1,
       o.is ∙ ap (λ (s : State). cond (eqb (s.forward e) e) (k + 1) k) i.0.state ∙ m.0,
     )
-
-pub returns : goal.returns
-returns c =
-    let i = c.loop-e.invariant in
-    let n : c.loop-e.e ≡ c.args.self.now.given = omega arith in
-    record { goes = goes_to (raw c.args.self.now) _ packed c.loop-e.e c.args.self.now.given n i.0; is = i.1 ∙ ap (rank (view c.args.self.now).forward) n }

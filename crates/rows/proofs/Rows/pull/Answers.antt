@@ -7,9 +7,6 @@ use Rattle.rows.proofs.Keeps.{becomes_as, becomes_then, becomes_none}
 use Rattle.rows.proofs.Settled.{end_is, pull_none, pull_some}
 use Rattle.rows.proofs.Rows.pull.Goals as goal
 
-pub living_end-w-requires : goal.living_end-w-requires
-living_end-w-requires c = record { tidy = c.requires.tidy; e_lt_given = c.requires.tidy.given (cell c.args.v c.args.l) c.in-Some.content (sym c.cell.ensures ∙ c.in-Some.is) }
-
 pub take_over-requires : goal.take_over-requires
 take_over-requires c =
     let s = view c.args.self.now in

@@ -1,12 +1,7 @@
-use Rattle.std.proofs.Common.{sym, ◌∙◌, arith, rules}
+use Rattle.std.proofs.Common.{sym, ◌∙◌, rules}
 use Rattle.rows.specs.View.{raw, slot}
-use Rattle.rows.proofs.SweepSteps.{new_number, renames_slot, goes_empty}
+use Rattle.rows.proofs.SweepSteps.{new_number, renames_slot}
 use Rattle.rows.proofs.Rows.rename.Goals as goal
-
-pub read-n-requires : goal.read-n-requires
-read-n-requires c =
-    let h = c.requires.still.given (slot c.args.t) c.in-Some.w (sym c.held.ensures ∙ c.in-Some.is) in
-    record { e_lt_capacity = omega (arith, c.requires.still.fits.few); j_bound = omega arith }
 
 pub overflow_add-self : goal.overflow_add-self
 overflow_add-self c =
@@ -19,9 +14,3 @@ returns-in-Some c =
     let n = renames_slot (raw c.args.self.now) c.requires.still c.requires.forward_ranked (slot c.args.t) c.requires.has c.in-Some.w c.read-n.result c.place-at.result
     (sym c.held.ensures ∙ c.in-Some.is) c.read-n.ensures c.place-at.ensures.is in
     record { goes = n.0; ranked = n.1 }
-
-pub returns-in_default : goal.returns-in_default
-returns-in_default c = record {
-  goes = goes_empty (raw c.args.self.now) c.requires.still c.requires.forward_ranked (slot c.args.t) c.requires.has (sym c.held.ensures ∙ c.in_default.is);
-  ranked = c.requires.forward_ranked;
-}

@@ -1,5 +1,4 @@
-use Rattle.std.proofs.Common.{ap, arith}
-use Rattle.machine.specs.State.{State}
+use Rattle.std.proofs.Common.{arith}
 use Rattle.rows.specs.View.{raw, view}
 use Rattle.rows.proofs.Settled.{end_is, still_waits, becomes_settled}
 use Rattle.rows.proofs.Rows.settle.Goals as goal
@@ -7,9 +6,6 @@ use Rattle.rows.proofs.Rows.settle.Goals as goal
 pub replace-requires : goal.replace-requires
 replace-requires c =
     record { tidy = c.requires.tidy; v_lt_given = omega (arith, c.first-v.ensures); u_lt_given = (end_is (view c.args.self.now) c.requires.tidy.lower c.first-v.result c.living_end-u.result c.living_end-u.ensures (omega (arith, c.first-v.ensures))).0 }
-
-pub drain-requires : goal.drain-requires
-drain-requires c = let n = ap (λ (s : State). s.given) c.replace.ensures.state in record { tidy = c.replace.ensures.tidy; v_lt_given = omega (arith, c.first-v.ensures) }
 
 pub pop-requires : goal.pop-requires
 pop-requires c = record { tidy = c.drain.ensures.tidy; waits_nonzero = still_waits (raw c.args.self.now) (raw c.replace.new.self) _ c.first-v.result c.living_end-u.result c.replace.ensures c.drain.ensures c.requires.waits_nonzero }

@@ -1,4 +1,5 @@
-use Rattle.std.proofs.Common.{ap, ◌∙◌, arith, ltb-false, ltb-true}
+use Rattle.std.proofs.Common.{◌-◌, length, get_or, length-take-le, ap, ◌∙◌, arith, ltb-false, ltb-true}
+use Rattle.words.specs.Words.{fields}
 use Rattle.rows.specs.View.{view}
 use Rattle.rows.specs.Walks.{side_of}
 use Rattle.rows.proofs.Walks.{walk_empty, side_far, side_near}
@@ -12,5 +13,7 @@ returns-in-None c = side_far (view c.args.self.now).held c.args.path.now c.args.
 
 pub returns-in-Some : goal.returns-in-Some
 returns-in-Some c =
+    let p = c.args.path.now in
+    let n = length-take-le (length p - 1) p (omega arith) in
     c.step.ensures
-    ∙ side_near (view c.args.self.now).held c.args.path.now c.args.e c.in-Some.x c.link.result (omega (arith, ltb-false)) c.in-Some.ensures c.link.ensures
+    ∙ side_near (view c.args.self.now).held p c.args.e c.in-Some.x c.fields_at.result (omega (arith, ltb-false)) c.in-Some.ensures (c.fields_at.ensures ∙ ap (λ i. fields (get_or p i 0)) n)

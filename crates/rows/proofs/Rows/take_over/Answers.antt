@@ -7,9 +7,6 @@ use Rattle.rows.proofs.Keeps.{becomes_as}
 use Rattle.rows.proofs.Settled.{take_empty, take_filled}
 use Rattle.rows.proofs.Rows.take_over.Goals as goal
 
-pub merge-requires : goal.merge-requires
-merge-requires c = record { tidy = c.requires.tidy; a_lt_given = c.requires.tidy.given (cell c.args.u c.args.l) c.in-Some.d (sym c.cell.ensures ∙ c.in-Some.is); b_lt_given = c.requires.w_lt_given }
-
 pub returns-in-None : goal.returns-in-None
 returns-in-None c = becomes_as _ _ (hold (cell c.args.u c.args.l) (Some c.args.w)) (take_over c.args.u c.args.l c.args.w) c.fill.ensures
     (take_empty (view c.args.self.now) _ _ _ (sym c.cell.ensures ∙ c.in-None.is))

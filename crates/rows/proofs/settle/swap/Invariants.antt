@@ -1,6 +1,6 @@
-use Rattle.std.proofs.Common.{◌≡◌}
-use Rattle.rows.specs.Writes.{changed, swapped}
+use Rattle.std.proofs.Common.{◌≡◌, ℕ, cond, ltb, get_or}
+use Rattle.rows.specs.Writes.{swapped}
 use Rattle.rows.proofs.settle.swap.Given as goal
 
-abbrev pub invariant-loop-i : goal.invariant-loop-i
-invariant-loop-i l = l.words ≡ changed (swapped l.old l.new) l.initial.words l.at l.i
+abbrev pub invariant-loop-w : goal.invariant-loop-w
+invariant-loop-w l = (i : ℕ) → get_or l.words i 0 ≡ cond (ltb i l.w-index) (swapped l.old l.new (get_or l.initial.words i 0)) (get_or l.initial.words i 0)

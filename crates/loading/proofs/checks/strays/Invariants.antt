@@ -1,6 +1,0 @@
-use Rattle.std.proofs.Common.{◌≡◌, false}
-use Rattle.registers.specs.Writing.{some_below, astray}
-use Rattle.loading.proofs.checks.strays.Given as goal
-
-abbrev pub invariant-loop-r : goal.invariant-loop-r
-invariant-loop-r g l = some_below (λ r. astray ((g.R.Register.meaning l.source).count l.to) ((g.R.Register.meaning l.source).follow l.link r)) l.r ≡ false
