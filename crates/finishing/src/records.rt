@@ -1,11 +1,11 @@
 // The record words of links and landings.
 ghost use Rattle.std.specs.Prelude.{◌≡◌, ℕ, ◌+◌, ◌<◌, ◌≤◌, length};
 ghost use Rattle.registers.specs.Splices.{spliced};
-ghost use Rattle.machine.specs.State.{landing};
-ghost use Rattle.rows.specs.Layout.{Fits};
+ghost use Rattle.rows.specs.Layout.{Fits, count};
 ghost use Rattle.rows.specs.View.{raw, slot};
 ghost use Rattle.finishing.specs.Records.{appended, number_in, Numbered, lead_word, Led, landed_words};
 
+use crate::Listing;
 use registers::writing::parts::put;
 use rows::{Rows, Slot};
 use words::tags::Tag;
@@ -39,31 +39,33 @@ fn put_lead(rows: &Rows, from: u32, link: u32, i: usize, out: &mut [u32], at: us
     at + 1
 }
 
-// Puts the record words of a link that leaves the kind `from`.
-pub(crate) fn put_leads(rows: &Rows, met: usize, from: u32, link: u32, out: &mut [u32], at: usize)
-    requires led { Led (raw rows.now) from link met }
-    requires met_in_bounds { at + length (appended (lead_word (raw rows.now) from link) met) ≤ length out.old }
-    ensures { out.new ≡ spliced at (appended (lead_word (raw rows.now) from link) met) out.old }
-{
-    let mut next = at;
-    for i in 0..met {
-        next = put_lead(rows, from, link, i, out, next);
+impl Listing<'_> {
+    // Puts the record words of a link that leaves the kind `from`.
+    pub(crate) fn put_leads(&self, from: u32, link: u32, out: &mut [u32], at: usize)
+        requires led { Led (raw self.now.rows.now) from link self.now.numbering.now.met }
+        requires met_in_bounds { at + length (appended (lead_word (raw self.now.rows.now) from link) self.now.numbering.now.met) ≤ length out.old }
+        ensures { out.new ≡ spliced at (appended (lead_word (raw self.now.rows.now) from link) self.now.numbering.now.met) out.old }
+    {
+        let mut next = at;
+        for i in 0..self.numbering.met {
+            next = put_lead(self.rows, from, link, i, out, next);
+        }
     }
-}
 
-// Puts the record words of the first `n` landings of the source kind `k`.
-pub(crate) fn put_landed(rows: &Rows, k: u32, n: u32, out: &mut [u32], at: usize)
-    requires fits { Fits (raw rows.now) }
-    requires by_index { (q : ℕ) → q < n → Numbered (raw rows.now) (landing k q) }
-    requires n_in_bounds { at + n ≤ length out.old }
-    ensures { out.new ≡ spliced at (landed_words (raw rows.now) k n) out.old }
-{
-    for q in 0..n {
-        put(
-            out,
-            at + q as usize,
-            Tag::Record,
-            number_in(rows, Slot::Landing(k, q)),
-        );
+    // Puts the record words of the landings of the source kind `k`.
+    pub(crate) fn put_landed(&self, k: u32, out: &mut [u32], at: usize)
+        requires k_lt_kinds { k < self.now.rows.now.source.kinds }
+        requires n_in_bounds { at + count (raw self.now.rows.now).shape k ≤ length out.old }
+        ensures { out.new ≡ spliced at (landed_words (raw self.now.rows.now) k (count (raw self.now.rows.now).shape k)) out.old }
+    {
+        let rows = self.rows;
+        for q in 0..rows.source.counts[k as usize] {
+            put(
+                out,
+                at + q as usize,
+                Tag::Record,
+                number_in(rows, Slot::Landing(k, q)),
+            );
+        }
     }
 }
