@@ -16,7 +16,7 @@ use Rattle.machine.specs.State.{Slot, landing}
 use Rattle.rows.specs.Layout.{Raw, Fits, count}
 use Rattle.rows.specs.Standing.{Stands, Standing}
 use Rattle.rows.proofs.Outline.{source_kinds_are}
-use Rattle.finishing.specs.Records.{appended, lead_word, Numbered, Led, Landed}
+use Rattle.finishing.specs.Records.{appended, lead_word, Numbered, Led}
 use Rattle.finishing.specs.Written.{Writing, Always, link_part, file_words}
 use Rattle.finishing.proofs.Numbers.{led, landed_numbered}
 use Rattle.finishing.proofs.FileParts.{counted, link_length, leads_length, file_length, file_small}
@@ -32,19 +32,6 @@ module _ {b : Raw} {f : Found} {met : ℕ} {counts : List ℕ} (x : Writing b f 
 
   known_is : (m n : ℕ) → Always b f met counts (λ L s. m ≡ n) → m ≡ n
   known_is m n h = ∥∥₁_elim x (ℕ_set m n) (λ y. h y.0 y.1 y.2)
-
-  pub fits : Fits b
-  fits = record {
-    below = known_le _ _ (λ L s w. w.listed.fits.below);
-    room = known_le _ _ (λ L s w. w.listed.fits.room);
-    few = known_le _ _ (λ L s w. w.listed.fits.few);
-    small = known_le _ _ (λ L s w. w.listed.fits.small);
-    narrow = known_le _ _ (λ L s w. w.listed.fits.narrow);
-    lot = known_le _ _ (λ L s w. w.listed.fits.lot);
-    sorts = known_le _ _ (λ L s w. w.listed.fits.sorts);
-    stacked = λ k h. known_is _ _ (λ L s w. w.listed.fits.stacked k h);
-    total = known_is _ _ (λ L s w. w.listed.fits.total);
-  }
 
   -- the problem is the one that is read from the words
   standing_by : (o : Result Problem SchemaFault) → read (take b.shape.lands b.ws) ≡ o → Standing b f
@@ -91,7 +78,6 @@ module _ {b : Raw} {f : Found} {met : ℕ} {counts : List ℕ} (x : Writing b f 
 
       pub link_led : Led b from l met
       link_led = record {
-        fits = fits;
         room = known_le _ _ (λ L s w. (found_led L s w).room);
         known = λ i k. known_le _ _ (λ L s w. (found_led L s w).known i k);
         numbered = λ i k q. numbered _ (λ L s w. (found_led L s w).numbered i k q);
@@ -106,20 +92,17 @@ module _ {b : Raw} {f : Found} {met : ℕ} {counts : List ℕ} (x : Writing b f 
       pub leads_fill : length (appended (lead_word b from l) met) ≡ get_or counts from 0
       leads_fill = known_is _ _ (λ L s w. subst (λ k. length (appended (lead_word b k l) met) ≡ get_or counts k 0) (leaves L s w) (leads_length L s b f met counts w l h))
 
-  pub links_known : b.shape.links ≤ 64
-  links_known = fits.narrow
+  -- the landings of a source kind
+  pub kinds_landed : f.source.kinds ≡ b.shape.kinds
+  kinds_landed = known_is _ _ (λ L s w. source_kinds_are L b f w.stands ∙ w.carries.kinds)
 
-  pub landed : Landed b f
-  landed = record {
-    fits = fits;
-    kinds = known_is _ _ (λ L s w. source_kinds_are L b f w.stands ∙ w.carries.kinds);
-    numbered = λ k q h l. numbered (landing k q) (λ L s w.
-        landed_numbered L s b met counts w.listed k (omega (arith, w.carries.kinds)) q (omega (arith, w.carries.counts k h)));
-  }
+  pub landed_known : (k q : ℕ) → k < b.shape.kinds → q < count b.shape k → Numbered b (landing k q)
+  landed_known k q h l = numbered (landing k q) (λ L s w.
+      landed_numbered L s b met counts w.listed k (omega (arith, w.carries.kinds)) q (omega (arith, w.carries.counts k h)))
 
-  pub landing_fits : {k : ℕ} → k < b.shape.kinds → (to : ℕ) → ((L : Loaded) → Stands L b f → k < L.source_kinds → L.kind_map k ≡ to) →
+  pub landing_fits : Fits b → {k : ℕ} → k < b.shape.kinds → (to : ℕ) → ((L : Loaded) → Stands L b f → k < L.source_kinds → L.kind_map k ≡ to) →
       count b.shape k * 65536 + k * 256 + to < 268435456
-  landing_fits = landing_small standing landed
+  landing_fits x h to is = landing_small standing x kinds_landed h to is
 
   -- the whole file
   pub counts_known : (k : ℕ) → k < f.target.kinds → get_or counts k 0 < 65536

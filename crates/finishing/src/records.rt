@@ -1,7 +1,7 @@
 // The record words of links and landings.
 ghost use Rattle.std.specs.Prelude.{◌≡◌, ℕ, ◌+◌, ◌<◌, ◌≤◌, length};
 ghost use Rattle.registers.specs.Splices.{spliced};
-ghost use Rattle.rows.specs.Layout.{Fits, count};
+ghost use Rattle.rows.specs.Layout.{count};
 ghost use Rattle.rows.specs.View.{raw, slot};
 ghost use Rattle.finishing.specs.Records.{appended, number_in, Numbered, lead_word, Led, landed_words};
 
@@ -12,8 +12,7 @@ use words::tags::Tag;
 
 // The number of the entry that the slot `t` holds.
 fn number_in(rows: &Rows, t: Slot) -> u32
-    requires rows_fit { Fits (raw rows.now) }
-    requires numbered { Numbered (raw rows.now) (slot t) }
+    requires { Numbered (raw rows.now) (slot t) }
     ensures is { result ≡ number_in (raw rows.now) (slot t) }
     ensures fits { result < 65536 }
 {

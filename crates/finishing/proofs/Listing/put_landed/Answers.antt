@@ -4,7 +4,7 @@ use Rattle.registers.specs.Writing.{upto}
 use Rattle.registers.proofs.WrittenSplices.{splice_none}
 use Rattle.registers.proofs.WrittenParts.{tagged_more}
 use Rattle.finishing.specs.Records.{landed_words}
-use Rattle.finishing.proofs.Known.{fits, landed}
+use Rattle.finishing.proofs.Known.{landed_known}
 use Rattle.finishing.proofs.Listing.put_landed.Goals as goal
 
 pub loop-q-init : goal.loop-q-init
@@ -12,9 +12,7 @@ unfolding landed_words upto
 loop-q-init c = splice_none c.args.at c.args.out.now
 
 pub number_in-requires : goal.number_in-requires
-number_in-requires c =
-    let w = c.args.self.now.writing in
-    record { rows_fit = fits w; numbered = (landed w).numbered c.args.k c.loop-q.q c.requires.k_lt_kinds (omega arith) }
+number_in-requires c = landed_known c.args.self.now.writing c.args.k c.loop-q.q c.requires.k_lt_kinds (omega arith)
 
 pub put-requires : goal.put-requires
 put-requires c = (omega arith, omega (arith, c.number_in.ensures.fits))

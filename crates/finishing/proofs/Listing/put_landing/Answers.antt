@@ -6,7 +6,7 @@ use Rattle.finishing.proofs.Listing.put_landing.Goals.{After-mapped-to}
 use Rattle.finishing.proofs.Listing.put_landing.Goals as goal
 
 fits : (c : After-mapped-to) → get_or c.args.self.now.rows.now.source.counts c.args.k 0 * 65536 + c.args.k * 256 + c.mapped-to.result < 268435456
-fits c = landing_fits c.args.self.now.writing c.requires.k_lt_kinds c.mapped-to.result c.mapped-to.ensures
+fits c = landing_fits c.args.self.now.writing c.args.self.now.rows.now.fits c.requires.k_lt_kinds c.mapped-to.result c.mapped-to.ensures
 
 pub mapped-to-requires : goal.mapped-to-requires
 mapped-to-requires c = standing c.args.self.now.writing

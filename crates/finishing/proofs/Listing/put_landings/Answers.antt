@@ -7,7 +7,7 @@ use Rattle.rows.proofs.Places.{sum_more}
 use Rattle.finishing.specs.Records.{appended, landing_part}
 use Rattle.finishing.proofs.Appended.{appended_start, appended_put}
 use Rattle.finishing.proofs.FileParts.{landings_length}
-use Rattle.finishing.proofs.Known.{landed}
+use Rattle.finishing.proofs.Known.{kinds_landed}
 use Rattle.finishing.proofs.Listing.put_landings.Goals as goal
 
 pub loop-k-init : goal.loop-k-init
@@ -16,11 +16,10 @@ loop-k-init c = (omega arith, λ L s w. appended_start (λ k. landing_part (raw 
 
 pub put_landing-next-requires : goal.put_landing-next-requires
 put_landing-next-requires c =
-    let d = landed c.args.self.now.writing in
     let h = (raw c.args.self.now.rows.now).shape in
-    let k = d.kinds in
+    let k = kinds_landed c.args.self.now.writing in
     let n = sum_more (count h) h.kinds c.loop-k.k (omega arith) in
-    let t = d.fits.total in
+    let t = c.args.self.now.rows.now.fits.total in
     let i = c.loop-k.invariant.0 in
     record { k_lt_kinds = omega arith; k_in_bounds = omega arith }
 
@@ -37,10 +36,9 @@ loop-k-preserved c =
 
 pub returns : goal.returns
 returns c =
-    let d = landed c.args.self.now.writing in
     let h = (raw c.args.self.now.rows.now).shape in
-    let e : c.loop-k.k ≡ h.kinds = omega (arith, d.kinds) in
+    let e : c.loop-k.k ≡ h.kinds = omega (arith, kinds_landed c.args.self.now.writing) in
     record {
-      next = c.loop-k.invariant.0 ∙ (let p = ap (sum (count h)) e in let t = d.fits.total in omega arith);
+      next = c.loop-k.invariant.0 ∙ (let p = ap (sum (count h)) e in let t = c.args.self.now.rows.now.fits.total in omega arith);
       words = λ L s w. c.loop-k.invariant.1 L s w ∙ ap (λ n. spliced c.args.at (appended (λ k. landing_part (raw c.args.self.now.rows.now) (L.kind_map k) k) n) c.args.out.now) e;
     }
