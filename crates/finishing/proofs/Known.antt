@@ -22,34 +22,12 @@ use Rattle.finishing.proofs.Numbers.{led, landed_numbered}
 use Rattle.finishing.proofs.FileParts.{counted, link_length, leads_length, file_length, file_small}
 use Rattle.finishing.proofs.Problem.{kinds_are, few_kinds, ends_known, landing_small}
 
--- a source, whichever: it says nothing of the problem
-no_source : Meaning
-no_source = record { kinds = 0; links = 0; ends = λ l. None; count = λ k. 0; follow = λ l q. None }
-
 module _ {b : Raw} {f : Found} {met : ℕ} {counts : List ℕ} (x : Writing b f met counts) where
   pub known_le : (m n : ℕ) → Always b f met counts (λ L s. m ≤ n) → m ≤ n
   known_le m n h = ∥∥₁_elim x le_prop (λ y. h y.0 y.1 y.2)
 
   known_is : (m n : ℕ) → Always b f met counts (λ L s. m ≡ n) → m ≡ n
   known_is m n h = ∥∥₁_elim x (ℕ_set m n) (λ y. h y.0 y.1 y.2)
-
-  -- the problem is the one that is read from the words
-  standing_by : (o : Result Problem SchemaFault) → read (take b.shape.lands b.ws) ≡ o → Standing b f
-  standing_by (Ok p) q = (
-    taken p no_source b.shape.capacity,
-    record {
-      problem = p;
-      source = no_source;
-      reads = q;
-      told = ap Ok (∥∥₁_elim x (hlevel props) (λ y. ok_same (sym (y.2.stands.told ∙ ap outline_of (sym y.2.stands.reads ∙ q)))));
-      takes = refl;
-      links = known_is _ _ (λ L s w. ap (λ (p : Problem). length p.target_links) (ok_same (sym w.stands.reads ∙ q)) ∙ sym (ap (λ (M : Loaded). M.links) w.stands.takes) ∙ w.stands.links);
-    },
-  )
-  standing_by (Err e) q = absurd (∥∥₁_elim x (hlevel props) (λ y. (let h = sym y.2.stands.reads ∙ q in cc)))
-
-  pub standing : Standing b f
-  standing = standing_by (read (take b.shape.lands b.ws)) refl
 
   numbered : (t : Slot) → Always b f met counts (λ L s. Numbered b t) → Numbered b t
   numbered t h v e = (
@@ -102,7 +80,7 @@ module _ {b : Raw} {f : Found} {met : ℕ} {counts : List ℕ} (x : Writing b f 
 
   pub landing_fits : Fits b → {k : ℕ} → k < b.shape.kinds → (to : ℕ) → ((L : Loaded) → Stands L b f → k < L.source_kinds → L.kind_map k ≡ to) →
       count b.shape k * 65536 + k * 256 + to < 268435456
-  landing_fits x h to is = landing_small standing x kinds_landed h to is
+  landing_fits x h to is = known_le _ _ (λ L s w. landing_small L b f w.stands x w.carries.kinds h to (is L w.stands))
 
   -- the whole file
   pub counts_known : (k : ℕ) → k < f.target.kinds → get_or counts k 0 < 65536

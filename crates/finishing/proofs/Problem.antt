@@ -38,18 +38,10 @@ module _ (L : Loaded) (b : Raw) (f : Found) (st : Stands L b f) where
   map_known = by_problem (λ M. (k : ℕ) → k < M.source_kinds → M.kind_map k < M.target_kinds)
       (λ k h. All-get_or (λ t. t < st.problem.target_kinds) st.problem.kind_map k 0 (omega (arith, h, well.kinds_full)) well.kinds)
 
--- so the fields of the words of landings are small
-module _ {b : Raw} {f : Found} (st : Standing b f) where
-  pub landing_small : Fits b → f.source.kinds ≡ b.shape.kinds → {k : ℕ} → k < b.shape.kinds → (to : ℕ) → ((L : Loaded) → Stands L b f → k < L.source_kinds → L.kind_map k ≡ to) →
+  -- so the fields of the words of landings are small
+  pub landing_small : Fits b → L.source_kinds ≡ b.shape.kinds → {k : ℕ} → k < b.shape.kinds → (to : ℕ) → (k < L.source_kinds → L.kind_map k ≡ to) →
       count b.shape k * 65536 + k * 256 + to < 268435456
-  landing_small d kinds {k} h to is =
-      let L : Loaded = st.0 in
-      let j : k < L.source_kinds = omega (arith, kinds, source_kinds_are L b f st.1) in
+  landing_small x kinds {k} h to is =
+      let j : k < L.source_kinds = omega arith in
       let m = sum_more (count b.shape) b.shape.kinds k h in
-      let t = is L st.1 j in
-      let n = map_known L b f st.1 k j in
-      let x = few_kinds L b f st.1 in
-      let y = d.total in
-      let z = d.lot in
-      let u = d.sorts in
-      omega arith
+      omega (arith, m, is j, map_known k j, few_kinds, x.total, x.lot, x.sorts)

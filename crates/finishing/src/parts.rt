@@ -1,27 +1,17 @@
 // The register file of a numbered table, written part by part.
-ghost use Rattle.std.specs.Prelude.{◌≡◌, ℕ, ◌+◌, ◌<◌, ◌≤◌, ◌++◌, length, drop, slice_index};
+ghost use Rattle.std.specs.Prelude.{◌≡◌, ◌+◌, ◌<◌, ◌≤◌, ◌++◌, length, drop};
 ghost use Rattle.registers.specs.Splices.{spliced};
 ghost use Rattle.rows.specs.Layout.{count};
 ghost use Rattle.rows.specs.View.{raw};
 ghost use Rattle.finishing.specs.Records.{appended, landing_part};
-ghost use Rattle.finishing.specs.Written.{count_words, link_part, file_words};
+ghost use Rattle.finishing.specs.Written.{link_part, file_words};
 ghost use Rattle.finishing.specs.Listing.{Each};
 
 use crate::Listing;
-use registers::writing::parts::put;
+use crate::records::number_in;
+use registers::writing::parts::{put, put_each};
+use rows::Slot;
 use words::tags::Tag;
-
-// Puts the count of each kind behind the first word.
-fn put_counts(kinds: usize, counts: &[u32; 32], out: &mut [u32])
-    requires kinds_bound { kinds ≤ 32 }
-    requires kinds_in_bounds { kinds < length out.old }
-    requires by_index { (k : ℕ) → k < kinds → slice_index counts.now k < 65536 }
-    ensures { out.new ≡ spliced 1 (count_words counts.now kinds) out.old }
-{
-    for k in 0..kinds {
-        put(out, 1 + k, Tag::Count, counts[k]);
-    }
-}
 
 impl Listing<'_> {
     // Puts a link and its records; tells the place behind them.
@@ -61,7 +51,9 @@ impl Listing<'_> {
         let n = rows.source.counts[k as usize];
         let to = rows.mapped(self.found, k);
         put(out, at, Tag::Landings, n * 65536 + k * 256 + to);
-        self.put_landed(k, out, at + 1);
+        put_each(out, at + 1, Tag::Record, n, |q| {
+            number_in(rows, Slot::Landing(k, q))
+        });
         at + 1 + n as usize
     }
 
@@ -87,7 +79,8 @@ impl Listing<'_> {
     {
         let kinds = self.found.target.kinds;
         put(out, 0, Tag::Register, kinds);
-        put_counts(kinds as usize, &self.numbering.counts, out);
+        let counts = &self.numbering.counts;
+        put_each(out, 1, Tag::Count, kinds, |k| counts[k as usize]);
         let next = self.put_links(out, 1 + kinds as usize);
         let end = self.put_landings(out, next);
         put(out, end, Tag::End, end as u32);

@@ -1,9 +1,8 @@
 // The record words of links and landings.
 ghost use Rattle.std.specs.Prelude.{◌≡◌, ℕ, ◌+◌, ◌<◌, ◌≤◌, length};
 ghost use Rattle.registers.specs.Splices.{spliced};
-ghost use Rattle.rows.specs.Layout.{count};
 ghost use Rattle.rows.specs.View.{raw, slot};
-ghost use Rattle.finishing.specs.Records.{appended, number_in, Numbered, lead_word, Led, landed_words};
+ghost use Rattle.finishing.specs.Records.{appended, number_in, Numbered, lead_word, Led};
 
 use crate::Listing;
 use registers::writing::parts::put;
@@ -11,7 +10,7 @@ use rows::{Rows, Slot};
 use words::tags::Tag;
 
 // The number of the entry that the slot `t` holds.
-fn number_in(rows: &Rows, t: Slot) -> u32
+pub(crate) fn number_in(rows: &Rows, t: Slot) -> u32
     requires { Numbered (raw rows.now) (slot t) }
     ensures is { result ≡ number_in (raw rows.now) (slot t) }
     ensures fits { result < 65536 }
@@ -48,23 +47,6 @@ impl Listing<'_> {
         let mut next = at;
         for i in 0..self.numbering.met {
             next = put_lead(self.rows, from, link, i, out, next);
-        }
-    }
-
-    // Puts the record words of the landings of the source kind `k`.
-    pub(crate) fn put_landed(&self, k: u32, out: &mut [u32], at: usize)
-        requires k_lt_kinds { k < self.now.rows.now.source.kinds }
-        requires n_in_bounds { at + count (raw self.now.rows.now).shape k ≤ length out.old }
-        ensures { out.new ≡ spliced at (landed_words (raw self.now.rows.now) k (count (raw self.now.rows.now).shape k)) out.old }
-    {
-        let rows = self.rows;
-        for q in 0..rows.source.counts[k as usize] {
-            put(
-                out,
-                at + q as usize,
-                Tag::Record,
-                number_in(rows, Slot::Landing(k, q)),
-            );
         }
     }
 }

@@ -1,8 +1,5 @@
-use Rattle.finishing.proofs.Known.{standing, found_ends, small_ends}
+use Rattle.finishing.proofs.Known.{found_ends, small_ends}
 use Rattle.finishing.proofs.Listing.ends.Goals as goal
-
-pub link_ends-requires : goal.link_ends-requires
-link_ends-requires c = standing c.args.self.now.writing
 
 pub returns : goal.returns
 returns c =
