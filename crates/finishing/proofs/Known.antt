@@ -1,20 +1,13 @@
 -- What is known of a table whose words list some numbering.
-use Rattle.std.proofs.Common.{◌≡◌, ℕ, ◌+◌, ◌*◌, ◌<◌, ◌≤◌, List, length, get_or, take, None, Ok, Err, Result, sym, refl, ap, ◌∙◌, subst, arith}
-use Rattle.std.proofs.Props.{props}
+use Rattle.std.proofs.Common.{◌≡◌, ℕ, ◌+◌, ◌*◌, ◌<◌, ◌≤◌, List, length, get_or, ap, ◌∙◌, subst, arith}
 use mathlib.Core.Logic.{∥∥₁_elim}
 use native.Mathlib.Nat.{ℕ_set}
 use native.Mathlib.Bridge.{le_prop}
-use Rattle.words.specs.declared.faults.SchemaFault.{SchemaFault}
-use Rattle.words.proofs.Laid.{ok_same}
 use Rattle.problems.specs.declared.Found.{Found}
-use Rattle.problems.specs.Problem.{Problem, read}
-use Rattle.problems.specs.Shown.{outline_of}
-use Rattle.registers.specs.Meaning.{Meaning}
 use Rattle.machine.specs.Loaded.{Loaded}
-use Rattle.machine.specs.Loading.{taken}
 use Rattle.machine.specs.State.{Slot, landing}
 use Rattle.rows.specs.Layout.{Raw, Fits, count}
-use Rattle.rows.specs.Standing.{Stands, Standing}
+use Rattle.rows.specs.Standing.{Stands}
 use Rattle.rows.proofs.Outline.{source_kinds_are}
 use Rattle.finishing.specs.Records.{appended, lead_word, Numbered, Led}
 use Rattle.finishing.specs.Written.{Writing, Always, link_part, file_words}

@@ -10,8 +10,7 @@ use Rattle.problems.proofs.Layouts.{read_layout}
 use Rattle.machine.specs.Loaded.{Loaded}
 use Rattle.machine.specs.Loading.{taken}
 use Rattle.rows.specs.Layout.{Raw, Fits, count}
-use Rattle.rows.specs.Standing.{Stands, Standing}
-use Rattle.rows.proofs.Outline.{source_kinds_are}
+use Rattle.rows.specs.Standing.{Stands}
 use Rattle.rows.proofs.Places.{sum_more}
 
 module _ (L : Loaded) (b : Raw) (f : Found) (st : Stands L b f) where
@@ -26,9 +25,6 @@ module _ (L : Loaded) (b : Raw) (f : Found) (st : Stands L b f) where
 
   pub few_kinds : L.target_kinds ≤ 32
   few_kinds = by_problem (λ M. M.target_kinds ≤ 32) well.target.few
-
-  pub few_links : L.links ≤ 64
-  few_links = by_problem (λ M. M.links ≤ 64) well.target.few_links
 
   pub ends_known : (l : ℕ) → l < L.links → (L.from l < L.target_kinds) × (L.to l < L.target_kinds)
   ends_known = by_problem (λ M. (l : ℕ) → l < M.links → (M.from l < M.target_kinds) × (M.to l < M.target_kinds))

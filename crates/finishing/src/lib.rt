@@ -20,6 +20,7 @@ mod records;
 mod sizes;
 
 // A complete table whose numbering stands in its words, and what was found in its problem.
+// It is no `Register`: the entries stand in the order of the sequence, so each call of `follow` would search them for those of one kind.
 #[derive(Clone, Copy)]
 struct Listing<'a> {
     rows: &'a Rows<'a>,

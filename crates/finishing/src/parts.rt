@@ -28,6 +28,7 @@ impl Listing<'_> {
     }
 
     // Puts the links; tells the place behind them.
+    // A loop that carries the place, as for the landings: only the call that puts a part tells where the next begins.
     fn put_links(&self, out: &mut [u32], at: usize) -> usize
         requires { Each self.now (λ L s. at + length (appended (link_part L s) self.now.rows.now.links) ≤ length out.old) }
         ensures next { Each self.now (λ L s. result ≡ at + length (appended (link_part L s) self.now.rows.now.links)) }
@@ -42,13 +43,13 @@ impl Listing<'_> {
 
     // Puts the landings of the source kind `k`; tells the place behind them.
     fn put_landing(&self, k: u32, out: &mut [u32], at: usize) -> usize
-        requires k_lt_kinds { k < self.now.rows.now.source.kinds }
+        requires k_lt_kinds { k < (raw self.now.rows.now).shape.kinds }
         requires k_in_bounds { at + 1 + count (raw self.now.rows.now).shape k ≤ length out.old }
         ensures next { result ≡ at + 1 + count (raw self.now.rows.now).shape k }
         ensures words { Each self.now (λ L s. out.new ≡ spliced at (landing_part (raw self.now.rows.now) (L.kind_map k) k) out.old) }
     {
         let rows = self.rows;
-        let n = rows.source.counts[k as usize];
+        let n = rows.source.kind(k).records;
         let to = rows.mapped(self.found, k);
         put(out, at, Tag::Landings, n * 65536 + k * 256 + to);
         put_each(out, at + 1, Tag::Record, n, |q| {
@@ -59,10 +60,10 @@ impl Listing<'_> {
 
     // Puts the landings; tells the place behind them.
     fn put_landings(&self, out: &mut [u32], at: usize) -> usize
-        requires { at + self.now.rows.now.source.kinds + self.now.rows.now.records ≤ length out.old }
-        ensures next { result ≡ at + self.now.rows.now.source.kinds + self.now.rows.now.records }
+        requires { at + (raw self.now.rows.now).shape.kinds + self.now.rows.now.records ≤ length out.old }
+        ensures next { result ≡ at + (raw self.now.rows.now).shape.kinds + self.now.rows.now.records }
         ensures words { Each self.now (λ L s.
-            out.new ≡ spliced at (appended (λ k. landing_part (raw self.now.rows.now) (L.kind_map k) k) self.now.rows.now.source.kinds) out.old) }
+            out.new ≡ spliced at (appended (λ k. landing_part (raw self.now.rows.now) (L.kind_map k) k) (raw self.now.rows.now).shape.kinds) out.old) }
     {
         let mut next = at;
         for k in 0..self.found.source.kinds {

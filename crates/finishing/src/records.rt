@@ -39,6 +39,7 @@ fn put_lead(rows: &Rows, from: u32, link: u32, i: usize, out: &mut [u32], at: us
 
 impl Listing<'_> {
     // Puts the record words of a link that leaves the kind `from`.
+    // A loop that carries the place: only the call that puts a record tells whether it took one.
     pub(crate) fn put_leads(&self, from: u32, link: u32, out: &mut [u32], at: usize)
         requires led { Led (raw self.now.rows.now) from link self.now.numbering.now.met }
         requires met_in_bounds { at + length (appended (lead_word (raw self.now.rows.now) from link) self.now.numbering.now.met) ≤ length out.old }

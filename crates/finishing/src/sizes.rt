@@ -27,6 +27,7 @@ impl Listing<'_> {
     }
 
     // Of all links.
+    // A loop and no `sum`: the lemmas on a sum ask what each call returns at every number, and only a link that there is has a size.
     fn links_size(&self) -> usize
         ensures words { Each self.now (λ L s. result ≡ length (appended (link_part L s) self.now.rows.now.links)) }
         ensures fits { result ≤ 274877906944 }
@@ -43,7 +44,8 @@ impl Listing<'_> {
         ensures { Each self.now (λ L s. result ≡ length (file_words L s)) }
     {
         let kinds = self.found.target.kinds as usize;
-        let landings = self.rows.source.kinds + self.rows.records;
+        let rows = self.rows;
+        let landings = rows.source.len() + rows.records;
         kinds + self.links_size() + landings + 2
     }
 }

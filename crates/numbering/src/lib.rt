@@ -73,11 +73,11 @@ impl Count<'_, '_> {
 
     // Meets what the landings of the source kind `k` hold, by record.
     fn meet_kind(&mut self, k: u32)
-        requires { k < self.old.rows.now.source.kinds }
+        requires { k < (raw self.old.rows.now).shape.kinds }
         ensures { Meets (λ a xs. of_kind (shown a) k (count a.shape k) xs) (seen self.old) (seen self.new) }
     {
         let rows = &*self.rows;
-        let n = rows.source.counts[k as usize];
+        let n = rows.source.kind(k).records;
         for q in 0..n {
             self.meet(Slot::Landing(k, q));
         }
@@ -87,7 +87,8 @@ impl Count<'_, '_> {
     fn meet_landings(&mut self)
         ensures { Meets (λ a xs. of_kinds a a.shape.kinds xs) (seen self.old) (seen self.new) }
     {
-        let n = self.rows.source.kinds as u32;
+        let rows = &*self.rows;
+        let n = rows.source.len() as u32;
         for k in 0..n {
             self.meet_kind(k);
         }

@@ -7,8 +7,8 @@ use Rattle.finishing.proofs.Listing.put_file.Goals.{After-put_links-next}
 use Rattle.finishing.proofs.Listing.put_file.Goals as goal
 
 -- the end stands within the output, and its number of words fits a field
-end_fits : (c : After-put_links-next) → (c.put_links-next.result + c.args.self.now.rows.now.source.kinds + c.args.self.now.rows.now.records < length c.args.out.now)
-    × (c.put_links-next.result + c.args.self.now.rows.now.source.kinds + c.args.self.now.rows.now.records < 268435456)
+end_fits : (c : After-put_links-next) → (c.put_links-next.result + (raw c.args.self.now.rows.now).shape.kinds + c.args.self.now.rows.now.records < length c.args.out.now)
+    × (c.put_links-next.result + (raw c.args.self.now.rows.now).shape.kinds + c.args.self.now.rows.now.records < 268435456)
 end_fits c = end_room c.args.self.now.writing _ _ c.put_links-next.ensures.next c.requires
 
 pub put-requires : goal.put-requires

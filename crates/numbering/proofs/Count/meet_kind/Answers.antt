@@ -12,4 +12,4 @@ pub loop-q-preserved : goal.loop-q-preserved
 loop-q-preserved c = meets_then _ _ _ c.loop-q.invariant c.meet.ensures (kind_more c.args.k c.loop-q.q)
 
 pub returns : goal.returns
-returns c = meets_to (λ a q xs. of_kind (shown a) c.args.k q xs) c.loop-q.q (λ h. count h c.args.k) (omega arith) c.loop-q.invariant
+returns c = meets_to (λ a q xs. of_kind (shown a) c.args.k q xs) c.loop-q.q (λ h. count h c.args.k) (omega (arith, c.kind-n.ensures.records)) c.loop-q.invariant

@@ -8,10 +8,10 @@ pub loop-k-init : goal.loop-k-init
 loop-k-init c = kinds_none (seen c.args.self.now)
 
 pub meet_kind-requires : goal.meet_kind-requires
-meet_kind-requires c = omega (arith, meets_kinds c.loop-k.invariant c.args.self.now.counting)
+meet_kind-requires c = omega (arith, meets_kinds c.loop-k.invariant c.args.self.now.counting, c.len-n.ensures)
 
 pub loop-k-preserved : goal.loop-k-preserved
 loop-k-preserved c = meets_then _ _ _ c.loop-k.invariant c.meet_kind.ensures (kinds_more c.loop-k.k)
 
 pub returns : goal.returns
-returns c = meets_to of_kinds c.loop-k.k (λ h. h.kinds) (omega arith) c.loop-k.invariant
+returns c = meets_to of_kinds c.loop-k.k (λ h. h.kinds) (omega (arith, c.len-n.ensures)) c.loop-k.invariant
