@@ -1,8 +1,9 @@
 // The words of a register, written part by part.
-ghost use Rattle.std.specs.Prelude.{◌≡◌, ◌+◌, ◌<◌, ◌≤◌, [], ◌∷◌, ◌++◌, length, drop};
+ghost use Rattle.std.specs.Prelude.{◌≡◌, ℕ, ◌+◌, ◌<◌, ◌≤◌, [], ◌∷◌, ◌++◌, map, length, drop};
 ghost use Rattle.words.specs.Tags.{tagged};
+ghost use Rattle.registers.specs.Writing.{upto};
 ghost use Rattle.registers.specs.Splices.{spliced};
-ghost use Rattle.registers.specs.Parts.{file_words, row_words, count_words, record_words, links_words, LeadsFit, Writable};
+ghost use Rattle.registers.specs.Parts.{file_words, row_words, count_words, record_words, links_words, Told, LeadsFit, Writable};
 ghost use Rattle.registers.specs.Writability.{writable_prop};
 
 use crate::register::Register;
@@ -16,16 +17,27 @@ pub fn put(out: &mut [u32], at: usize, tag: Tag, fields: u32)
     out[at] = tag.number() * 268435456 + fields;
 }
 
+// Puts `n` words of one tag; `fields` tells what each holds.
+pub fn put_each<F: Fn(u32) -> u32>(out: &mut [u32], at: usize, tag: Tag, n: u32, fields: F)
+    requires room { at + n ≤ length out.old }
+    requires asked { (i : ℕ) → i < n → F.pre fields i }
+    requires small { (i v : ℕ) → i < n → F.post fields i v → v < 268435456 }
+    ensures { (f : ℕ → ℕ) → Told (F.post fields) n f → out.new ≡ spliced at (map (tagged tag) (upto f n)) out.old }
+{
+    for i in 0..n {
+        put(out, at + i as usize, tag, fields(i));
+    }
+}
+
 // Puts where each of the first n records leads.
 fn put_records<R: Register>(register: &R, link: u32, n: u32, out: &mut [u32], at: usize)
     requires fit { LeadsFit (R.meaning register.now) link n }
     requires room { at + n ≤ length out.old }
     ensures { out.new ≡ spliced at (record_words (R.meaning register.now) link n) out.old }
 {
-    for r in 0..n {
-        let led = register.follow(link, r).unwrap_or(0);
-        put(out, at + r as usize, Tag::Record, led);
-    }
+    put_each(out, at, Tag::Record, n, |r| {
+        register.follow(link, r).unwrap_or(0)
+    });
 }
 
 // A register that passed the tests before a write.
@@ -41,14 +53,9 @@ impl<'a, R: Register> Tested<'a, R> {
         requires { (R.meaning self.now.register.now).kinds < length out.old }
         ensures { out.new ≡ spliced 1 (count_words (R.meaning self.now.register.now) (R.meaning self.now.register.now).kinds) out.old }
     {
-        for kind in 0..self.register.kinds() {
-            put(
-                out,
-                1 + kind as usize,
-                Tag::Count,
-                self.register.count(kind),
-            );
-        }
+        put_each(out, 1, Tag::Count, self.register.kinds(), |kind| {
+            self.register.count(kind)
+        });
     }
 
     // Puts a link and its records; tells the place behind them.
