@@ -37,7 +37,7 @@ pub fn next(rows: &Rows, load: &Load) -> Option<Task>
         return Some(Task::Settle);
     }
     let search = Search { rows, load };
-    // No `or_else`: of a closure that borrows a value with a lifetime it tells nothing.
+    // Not `or_else`: the check learns nothing of what its closure answers where that borrows a value with a lifetime.
     if let Some(task) = search.links() {
         return Some(task);
     }
