@@ -7,7 +7,6 @@ use native.Mathlib.Nat.{ℕ_set}
 use native.Mathlib.Bridge.{le_prop}
 use Rattle.std.proofs.lemmas.Bool.{lt-ltb}
 use Rattle.words.proofs.Laid.{ok_same}
-use Rattle.problems.specs.declared.Found.{Found}
 use Rattle.problems.specs.Problem.{read}
 use Rattle.problems.specs.Shown.{Seen, outline_of}
 use Rattle.registers.specs.Writing.{lead}
@@ -18,6 +17,7 @@ use Rattle.machine.specs.Sound.{Sound}
 use Rattle.machine.specs.State.{start}
 use Rattle.machine.proofs.Loads.{loads, accepted}
 use Rattle.machine.proofs.Runs.{calls_good, start_good}
+use Rattle.rows.specs.declared.problem.Load.{Load}
 use Rattle.rows.specs.Layout.{Raw, Fits, Carries, Copied, shown}
 use Rattle.rows.specs.Standing.{Stands, Holds}
 use Rattle.rows.specs.Sweeps.{HeldLive}
@@ -39,8 +39,8 @@ seen_same x y e =
       link_maps = list (λ s. s.link_maps) j;
     }
 
-module _ (leads : List ℕ) (found : Found) (a : Raw) (reached : ∥ Reached leads found a ∥₁) where
-  pub carries : Carries (taken_shown leads a) a.shape
+module _ (l : Load) (a : Raw) (reached : ∥ Reached l a ∥₁) where
+  pub carries : Carries (taken_shown l.leads a) a.shape
   carries = record {
     links = ∥∥₁_elim reached (ℕ_set _ _) (λ r. r.carries.links);
     capacity = ∥∥₁_elim reached (ℕ_set _ _) (λ r. r.carries.capacity);
@@ -49,63 +49,63 @@ module _ (leads : List ℕ) (found : Found) (a : Raw) (reached : ∥ Reached lea
   }
 
   -- the machine loads its copies
-  loaded_as : (x : Result Loaded LoadFault) → load (length a.ws) (problem_words a) (copy leads a) ≡ x → load (length a.ws) (problem_words a) (copy leads a) ≡ Ok (taken_shown leads a)
+  loaded_as : (x : Result Loaded LoadFault) → load (length a.ws) (problem_words a) (copy l.leads a) ≡ x → load (length a.ws) (problem_words a) (copy l.leads a) ≡ Ok (taken_shown l.leads a)
   unfolding problem_in
   loaded_as (Err f) e = absurd (∥∥₁_elim reached ⊥_prop (λ r. let y = r.loads in let z : ◌≡◌ {A = ℕ} 0 1 = cc in omega arith))
   loaded_as (Ok K) e =
-      let l = loads (length a.ws) (problem_words a) (copy leads a) K e in
-      let p : problem_of a ≡ l.problem = ap or_no_problem l.reads in
-      let c : capacity_of (length a.ws) (problem_words a) l.problem (copy leads a) ≡ a.shape.capacity =
-      ∥∥₁_elim reached (ℕ_set _ _) (λ r. sym (ap (λ (M : Loaded). M.capacity) l.takes) ∙ ap (λ (M : Loaded). M.capacity) (ok_same (sym r.loads ∙ e))) in
-      e ∙ ap Ok l.takes ∙ (λ j. Ok (taken (sym p j) (copy leads a) (c j)))
+      let k = loads (length a.ws) (problem_words a) (copy l.leads a) K e in
+      let p : problem_of a ≡ k.problem = ap or_no_problem k.reads in
+      let c : capacity_of (length a.ws) (problem_words a) k.problem (copy l.leads a) ≡ a.shape.capacity =
+      ∥∥₁_elim reached (ℕ_set _ _) (λ r. sym (ap (λ (M : Loaded). M.capacity) k.takes) ∙ ap (λ (M : Loaded). M.capacity) (ok_same (sym r.loads ∙ e))) in
+      e ∙ ap Ok k.takes ∙ (λ j. Ok (taken (sym p j) (copy l.leads a) (c j)))
 
-  loaded : load (length a.ws) (problem_words a) (copy leads a) ≡ Ok (taken_shown leads a)
+  loaded : load (length a.ws) (problem_words a) (copy l.leads a) ≡ Ok (taken_shown l.leads a)
   loaded = loaded_as _ refl
 
   reads : read (problem_words a) ≡ Ok (problem_of a)
   unfolding problem_in
-  reads = let l = loads (length a.ws) (problem_words a) (copy leads a) (taken_shown leads a) loaded in l.reads ∙ ap Ok (sym (ap or_no_problem l.reads))
+  reads = let k = loads (length a.ws) (problem_words a) (copy l.leads a) (taken_shown l.leads a) loaded in k.reads ∙ ap Ok (sym (ap or_no_problem k.reads))
 
-  stands : Stands (taken_shown leads a) a found
+  stands : Stands (taken_shown l.leads a) a l.found
   stands = record {
     problem = problem_of a;
-    source = copy leads a;
+    source = copy l.leads a;
     reads = reads;
-    told = ap Ok (seen_same _ _ (∥∥₁_map reached (λ (r : Reached leads found a). ok_same (sym (r.outline ∙ ap outline_of reads)))));
+    told = ap Ok (seen_same _ _ (∥∥₁_map reached (λ (r : Reached l a). ok_same (sym (r.outline ∙ ap outline_of reads)))));
     takes = refl;
     links = carries.links;
   }
 
   module _ (fits : Fits a) (i q : ℕ) (h : i < length (problem_of a).source_links) (k : q < leaving (problem_of a) (count_copied a) i) where
-    within : Copied a.shape (get_or leads i 0 + q) → get_or leads i 0 + q < length a.ws
+    within : Copied a.shape (get_or l.leads i 0 + q) → get_or l.leads i 0 + q < length a.ws
     within (inl x) = omega (arith, x, fits.below, fits.room)
     within (inr x) = omega (arith, x.1, fits.room)
 
-    leads_in : get_or leads i 0 + q < length a.ws
+    leads_in : get_or l.leads i 0 + q < length a.ws
     leads_in = ∥∥₁_elim reached le_prop (λ r. within (r.placed i q h k))
 
-    leads_to : lead (copy leads a) i q ≡ get_or a.ws (get_or leads i 0 + q) 0
+    leads_to : lead (copy l.leads a) i q ≡ get_or a.ws (get_or l.leads i 0 + q) 0
     unfolding lead_copied
     leads_to =
         let e = lt-ltb i (length (problem_of a).source_links) h in
         let d = lt-ltb q (leaving (problem_of a) (count_copied a) i) k in
         rw (e, d) refl
 
-  pub holds : Fits a → Holds (taken_shown leads a) a found leads
+  pub holds : Fits a → Holds (taken_shown l.leads a) a l.found l.leads
   holds fits = record {
     stands = stands;
     carries = carries;
-    accepted = accepted (length a.ws) (problem_words a) (copy leads a) (taken_shown leads a) loaded;
+    accepted = accepted (length a.ws) (problem_words a) (copy l.leads a) (taken_shown l.leads a) loaded;
     led = λ i q h k. (leads_in fits i q h k, leads_to fits i q h k);
   }
 
   -- calls led to its state
-  sound : Reached leads found a → Sound (taken_shown leads a) (shown a)
-  sound r = subst (Sound (taken_shown leads a)) (sym r.state)
-      (calls_good (taken_shown leads a) (accepted (length a.ws) (problem_words a) (copy leads a) (taken_shown leads a) loaded) r.made start (start_good (taken_shown leads a))).sound
+  sound : Reached l a → Sound (taken_shown l.leads a) (shown a)
+  sound r = subst (Sound (taken_shown l.leads a)) (sym r.state)
+      (calls_good (taken_shown l.leads a) (accepted (length a.ws) (problem_words a) (copy l.leads a) (taken_shown l.leads a) loaded) r.made start (start_good (taken_shown l.leads a))).sound
 
   pub first_known : 0 < a.waits → get_or (shown a).waiting 0 0 < a.given
-  first_known h = ∥∥₁_elim reached le_prop (λ r. first_given (taken_shown leads a) a (sound r) h)
+  first_known h = ∥∥₁_elim reached le_prop (λ r. first_given (taken_shown l.leads a) a (sound r) h)
 
   pub held_live : a.waits ≡ 0 → HeldLive (shown a)
-  held_live quiet t w e = ∥∥₁_elim reached (ℕ_set _ _) (λ r. sound_live (taken_shown leads a) (shown a) (sound r) (none_waiting a quiet) t w e)
+  held_live quiet t w e = ∥∥₁_elim reached (ℕ_set _ _) (λ r. sound_live (taken_shown l.leads a) (shown a) (sound r) (none_waiting a quiet) t w e)

@@ -1,9 +1,8 @@
-pub mod Ghosts
 pub mod Held
+pub mod Promises
 pub mod After
 pub mod Asked
-pub mod Promises
 pub mod Finished
-pub mod Played
 pub mod Stepped
+pub mod Played
 pub mod Taken

@@ -1,10 +1,12 @@
 -- The whole promise, of a table of the code.
-use Rattle.std.specs.Prelude.{◌≡◌, ℕ, Bool, true, List, take, Ok, Result}
+use Rattle.std.specs.Prelude.{◌≡◌, ℕ, List, take, Ok, Option, Result}
+use Rattle.std.specs.Option.{ForSome}
 use Rattle.words.specs.declared.faults.Refusal.{Refusal}
 use Rattle.register_files.specs.Register.{read}
 use Rattle.machine.specs.Promise.{Promised}
 use Rattle.machine.specs.Finish.{finished_file}
 use Rattle.machine.specs.ReadBack.{ReadsBack}
+use Rattle.rows.specs.declared.problem.Load.{Load}
 use Rattle.rows.specs.Layout.{Raw, shown}
 use Rattle.rows.specs.View.{raw, view}
 use Rattle.loading.specs.LoadedWords.{taken_shown}
@@ -14,11 +16,11 @@ use Rattle.table.specs.declared.table.Table.{Table}
 -- A loaded table has, for every receiving register and placing, exactly one reading; what finish accepts is filled, keeps the rules and keeps step; and
 -- finish writes the words of the numbering, the same for every other table of the same problem words and source meaning. All of it is about the very
 -- problem words and source meaning that the table holds.
-abbrev pub PromiseOf : Bool → List ℕ → Raw → Type 0
-PromiseOf loaded leads r = loaded ≡ true → ∥ Promised (origin leads r).0 (origin leads r).1 (taken_shown leads r) (shown r) ∥₁
+abbrev pub PromiseOf : Option Load → Raw → Type 0
+PromiseOf load r = ForSome load (λ l. ∥ Promised (origin l.leads r).0 (origin l.leads r).1 (taken_shown l.leads r) (shown r) ∥₁)
 
 abbrev pub KeepsPromise : Table → Type 0
-KeepsPromise t = PromiseOf t.loaded t.leads (raw t.rows)
+KeepsPromise t = PromiseOf t.load (raw t.rows)
 
 -- What finish wrote is accepted by the reader of register files, and means the register that the table shows.
 abbrev pub IsReadBack : Table → Result ℕ Refusal → List ℕ → Type 0

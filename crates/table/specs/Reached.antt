@@ -1,11 +1,11 @@
 -- A loaded table: what its words say, and how it came to its state.
 use Rattle.std.specs.Prelude.{◌≡◌, ℕ, List, length, take, Ok}
-use Rattle.problems.specs.declared.Found.{Found}
 use Rattle.problems.specs.Problem.{read}
 use Rattle.problems.specs.Shown.{told, outline_of}
 use Rattle.machine.specs.Loading.{load}
 use Rattle.machine.specs.Shift.{Call, calls}
 use Rattle.machine.specs.State.{start}
+use Rattle.rows.specs.declared.problem.Load.{Load}
 use Rattle.rows.specs.Layout.{Raw, Carries, shown}
 use Rattle.loading.specs.LoadedWords.{copy, Placed, taken_shown}
 
@@ -14,10 +14,10 @@ abbrev pub problem_words : Raw → List ℕ
 problem_words r = take r.shape.lands r.ws
 
 -- the machine loads the table's own copies, and calls lead from its start to the state
-pub record Reached (leads : List ℕ) (found : Found) (r : Raw) : Type 0 where
-  pub loads : load (length r.ws) (problem_words r) (copy leads r) ≡ Ok (taken_shown leads r)
-  pub outline : told (Ok found) ≡ outline_of (read (problem_words r))
-  pub placed : Placed leads r
-  pub carries : Carries (taken_shown leads r) r.shape
+pub record Reached (l : Load) (r : Raw) : Type 0 where
+  pub loads : load (length r.ws) (problem_words r) (copy l.leads r) ≡ Ok (taken_shown l.leads r)
+  pub outline : told (Ok l.found) ≡ outline_of (read (problem_words r))
+  pub placed : Placed l.leads r
+  pub carries : Carries (taken_shown l.leads r) r.shape
   pub made : List Call
-  pub state : shown r ≡ calls (taken_shown leads r) made start
+  pub state : shown r ≡ calls (taken_shown l.leads r) made start

@@ -1,9 +1,10 @@
 -- The steps of the code, as those of the machine.
-use Rattle.std.specs.Prelude.{Ok, Err, Result}
+use Rattle.std.specs.Prelude.{ℕ, Ok, Err, Result}
 use Rattle.machine.specs.declared.answers.Ending.{Ending}
+use Rattle.machine.specs.declared.answers.Ending.TheVariants as ending
 use Rattle.machine.specs.Calls.{Op, apply}
 use Rattle.machine.specs.Progress.{Progress, going, over, ending_of}
-use Rattle.machine.specs.Shift.{Todo, does, ends}
+use Rattle.machine.specs.Shift.{Todo, does, ends, next, plan}
 use Rattle.machine.specs.Tables.{Table, opened, holding}
 use Rattle.searching.specs.declared.Task.{Task}
 use Rattle.searching.specs.Tasks.{op_of}
@@ -18,6 +19,11 @@ shown_step (Ended e n) = over e n
 abbrev pub planned : Todo → Result Op Ending
 planned (does o) = Ok o
 planned (ends e) = Err (ending_of e)
+
+-- what a step does with that budget left, or how it ends the shift
+abbrev pub plan_of : ℕ → Table → Result Op Ending
+plan_of left (opened work) = Err ending.NotLoaded
+plan_of left (holding work L s) = planned (plan L s (next L s) left)
 
 abbrev pub shown_plan : Result Task Ending → Result Op Ending
 shown_plan (Ok t) = Ok (op_of t)

@@ -2,42 +2,28 @@
 ghost use Rattle.std.specs.Prelude.{◌≡◌, length, Ok, Err};
 ghost use Rattle.machine.specs.Tables.{opening, loading, capacity_told, given_told, living_told, waiting_told, cell_told, landing_told, settle_call, landing_call, define_call, rule_call, link_call, sweep_call};
 ghost use Rattle.table.specs.Promises.{KeepsPromise};
-ghost use Rattle.table.specs.Tabled.{view_of, origin_of};
+ghost use Rattle.table.specs.Tabled.{view_of, origin_of, IsLoaded};
 
 use crate::table::Table;
 use bounded::Bounded;
 use loading::load;
 use machine::answers::{LoadFault, Outcome};
-use problems::{Found, Schema};
 use registers::register::Register;
-use rows::{Rows, Slot, Source};
+use rows::problem::Load;
+use rows::{Rows, Slot, Source, SourceKind};
 use words::faults::Refusal;
-
-// The outline of no problem.
-fn nothing() -> Found {
-    let schema = Schema {
-        kinds: 0,
-        links: 0,
-        place: 0,
-    };
-    Found {
-        source: schema,
-        target: schema,
-        rules: Bounded::new(0),
-        maps: 0,
-        link_maps: Bounded::new(0),
-    }
-}
 
 impl<'a> Table<'a> {
     // A table over the words, not loaded.
     pub fn open(words: &'a mut [u32]) -> Table<'a>
         ensures { view_of result ≡ opening (length words.old) }
     {
+        let blank = SourceKind {
+            records: 0,
+            start: 0,
+        };
         let source = Source {
-            kinds: 0,
-            counts: [0; 32],
-            starts: [0; 32],
+            kinds: Bounded::new(blank),
         };
         let rows = Rows {
             words,
@@ -51,12 +37,7 @@ impl<'a> Table<'a> {
             front: 0,
             waits: 0,
         };
-        Table {
-            rows,
-            found: nothing(),
-            leads: [0; 64],
-            loaded: false,
-        }
+        Table { rows, load: None }
     }
 
     // The words, given back.
@@ -77,15 +58,10 @@ impl Table<'_> {
         ensures words { (e : LoadFault) → result ≡ Err e → self.new.rows.words.now ≡ self.old.rows.words.now }
         ensures promise { KeepsPromise self.new }
     {
-        if self.loaded {
+        if self.load.is_some() {
             return Err(LoadFault::Loaded);
         }
-        let Table {
-            rows,
-            found,
-            leads,
-            loaded,
-        } = self;
+        let rows = &mut self.rows;
         let taken = load(rows.words, problem, source)?;
         rows.source = taken.source;
         rows.lands = taken.lands;
@@ -96,65 +72,60 @@ impl Table<'_> {
         rows.given = 0;
         rows.front = 0;
         rows.waits = 0;
-        *found = taken.found;
-        let places = taken.leads;
-        *leads = places;
-        *loaded = true;
+        let leads = taken.leads;
+        self.load = Some(Load {
+            found: taken.found,
+            leads,
+        });
         Ok(())
+    }
+
+    // The rows, if something was loaded into them.
+    fn loaded(&self) -> Result<&Rows<'_>, Refusal>
+        ensures { IsLoaded self.now result }
+    {
+        match &self.load {
+            Some(_) => Ok(&self.rows),
+            None => Err(Refusal::State),
+        }
     }
 
     // How many entries the table has room for.
     pub fn capacity(&self) -> Result<u32, Refusal>
         ensures { result ≡ capacity_told (view_of self.now) }
     {
-        if self.loaded {
-            Ok(self.rows.capacity as u32)
-        } else {
-            Err(Refusal::State)
-        }
+        Ok(self.loaded()?.capacity as u32)
     }
 
     // How many numbers were given since the last sweep.
     pub fn given(&self) -> Result<u32, Refusal>
         ensures { result ≡ given_told (view_of self.now) }
     {
-        if self.loaded {
-            Ok(self.rows.given as u32)
-        } else {
-            Err(Refusal::State)
-        }
+        Ok(self.loaded()?.given as u32)
     }
 
     // How many entries live.
     pub fn living(&self) -> Result<u32, Refusal>
         ensures { result ≡ living_told (view_of self.now) }
     {
-        if self.loaded {
-            Ok(self.rows.living())
-        } else {
-            Err(Refusal::State)
-        }
+        Ok(self.loaded()?.living())
     }
 
     // How many wait.
     pub fn waiting(&self) -> Result<u32, Refusal>
         ensures { result ≡ waiting_told (view_of self.now) }
     {
-        if self.loaded {
-            Ok(self.rows.waits as u32)
-        } else {
-            Err(Refusal::State)
-        }
+        Ok(self.loaded()?.waits as u32)
     }
 
     // The cell of the living entry `e` at the link `l`, which leaves its kind.
     pub fn cell(&self, e: u32, l: u32) -> Result<Option<u32>, Refusal>
         ensures { result ≡ cell_told e l (view_of self.now) }
     {
-        if !self.loaded {
+        let Some(load) = &self.load else {
             return Err(Refusal::State);
-        }
-        let (from, _) = self.rows.link_ends(&self.found, l);
+        };
+        let (from, _) = self.rows.link_ends(&load.found, l);
         if self.rows.leaves(e, l, from) {
             Ok(self.rows.cell(e, l))
         } else {
@@ -166,9 +137,7 @@ impl Table<'_> {
     pub fn landing(&self, k: u32, q: u32) -> Result<Option<u32>, Refusal>
         ensures { result ≡ landing_told k q (view_of self.now) }
     {
-        if !self.loaded {
-            return Err(Refusal::State);
-        }
+        self.loaded()?;
         if self.rows.has(Slot::Landing(k, q)) {
             Ok(self.rows.landing(k, q))
         } else {
@@ -182,9 +151,7 @@ impl Table<'_> {
         ensures kept { origin_of self.new ≡ origin_of self.old }
         ensures promise { KeepsPromise self.new }
     {
-        if !self.loaded {
-            return Err(Refusal::State);
-        }
+        self.loaded()?;
         if self.rows.waits == 0 {
             return Err(Refusal::NoneWaits);
         }
@@ -198,10 +165,10 @@ impl Table<'_> {
         ensures kept { origin_of self.new ≡ origin_of self.old }
         ensures promise { KeepsPromise self.new }
     {
-        if !self.loaded {
+        let Some(load) = &self.load else {
             return Err(Refusal::State);
-        }
-        let kind = self.rows.mapped(&self.found, k);
+        };
+        let kind = self.rows.mapped(&load.found, k);
         self.rows.land(k, q, kind)
     }
 
@@ -211,10 +178,10 @@ impl Table<'_> {
         ensures kept { origin_of self.new ≡ origin_of self.old }
         ensures promise { KeepsPromise self.new }
     {
-        if !self.loaded {
+        let Some(load) = &self.load else {
             return Err(Refusal::State);
-        }
-        let (from, to) = self.rows.link_ends(&self.found, l);
+        };
+        let (from, to) = self.rows.link_ends(&load.found, l);
         self.rows.define(e, l, from, to)
     }
 
@@ -224,11 +191,10 @@ impl Table<'_> {
         ensures kept { origin_of self.new ≡ origin_of self.old }
         ensures promise { KeepsPromise self.new }
     {
-        if !self.loaded {
+        let Some(load) = &self.load else {
             return Err(Refusal::State);
-        }
-        let found = self.found;
-        self.rows.check_rule(&found, e, i as usize)
+        };
+        self.rows.check_rule(&load.found, e, i as usize)
     }
 
     // Checks the source link `i` at the record `q`, which it leaves.
@@ -237,12 +203,10 @@ impl Table<'_> {
         ensures kept { origin_of self.new ≡ origin_of self.old }
         ensures promise { KeepsPromise self.new }
     {
-        if !self.loaded {
+        let Some(load) = &self.load else {
             return Err(Refusal::State);
-        }
-        let found = self.found;
-        let lead = self.rows.lead(&found, &self.leads, i, q);
-        self.rows.check_link(&found, i as usize, lead)
+        };
+        self.rows.check_link(load, i, q)
     }
 
     // Numbers the living anew in their order, and drops the dead; tells how many.
@@ -251,9 +215,7 @@ impl Table<'_> {
         ensures kept { origin_of self.new ≡ origin_of self.old }
         ensures promise { KeepsPromise self.new }
     {
-        if !self.loaded {
-            return Err(Refusal::State);
-        }
+        self.loaded()?;
         if self.rows.waits > 0 {
             return Err(Refusal::Waiting);
         }

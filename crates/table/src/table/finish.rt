@@ -6,6 +6,7 @@ ghost use Rattle.table.specs.Tabled.{view_of, origin_of};
 
 use crate::table::Table;
 use finishing::finish;
+use searching::next;
 use words::faults::Refusal;
 
 impl Table<'_> {
@@ -18,16 +19,15 @@ impl Table<'_> {
         ensures promise { KeepsPromise self.new }
         ensures back { IsReadBack self.old result out.new }
     {
-        if !self.loaded {
+        let Some(load) = &self.load else {
             return Err(Refusal::State);
-        }
+        };
         if self.rows.waits > 0 {
             return Err(Refusal::Waiting);
         }
-        if self.next().is_some() {
+        if next(&self.rows, load).is_some() {
             return Err(Refusal::Incomplete);
         }
-        let found = self.found;
-        finish(&mut self.rows, &found, out)
+        finish(&mut self.rows, &load.found, out)
     }
 }

@@ -1,17 +1,18 @@
 // Steps of a shift.
-ghost use Rattle.std.specs.Prelude.{◌≡◌, true};
+ghost use Rattle.std.specs.Prelude.{◌≡◌};
+ghost use Rattle.machine.specs.Loaded.{Loaded};
 ghost use Rattle.machine.specs.Progress.{step_call};
 ghost use Rattle.machine.specs.Shift as machine;
-ghost use Rattle.rows.specs.View.{view};
-ghost use Rattle.searching.specs.Tasks.{op_of, shown_task};
-ghost use Rattle.table.specs.Steps.{shown_step, shown_plan, planned, after};
+ghost use Rattle.rows.specs.Layout.{Carries};
+ghost use Rattle.rows.specs.View.{raw, view};
+ghost use Rattle.searching.specs.Tasks.{op_of};
+ghost use Rattle.table.specs.Steps.{shown_step, shown_plan, planned, plan_of, after};
 ghost use Rattle.table.specs.Promises.{KeepsPromise};
-ghost use Rattle.table.specs.Tabled.{view_of, took, origin_of};
+ghost use Rattle.table.specs.Tabled.{view_of, origin_of};
 
 use super::{Shift, Step};
 use crate::table::Table;
 use machine::answers::Ending;
-use rows::problem::Load;
 use searching::{Task, next};
 
 impl Shift {
@@ -28,22 +29,9 @@ impl Shift {
 }
 
 impl Table<'_> {
-    // What there is to do next, if anything.
-    pub(crate) fn next(&self) -> Option<Task>
-        requires { self.now.loaded ≡ true }
-        ensures { shown_task result ≡ machine.next (took self.now) (view self.now.rows) }
-    {
-        let load = Load {
-            found: self.found,
-            leads: self.leads,
-        };
-        next(&self.rows, &load)
-    }
-
     // The task if there is a free number, else to sweep, if some are dead.
     fn with_room(&self, task: Task) -> Result<Task, Ending>
-        requires { self.now.loaded ≡ true }
-        ensures { shown_plan result ≡ planned (machine.with_room (took self.now) (view self.now.rows) (op_of task)) }
+        ensures { (L : Loaded) → Carries L (raw self.now.rows).shape → shown_plan result ≡ planned (machine.with_room L (view self.now.rows) (op_of task)) }
     {
         if self.rows.given < self.rows.capacity {
             Ok(task)
@@ -56,12 +44,12 @@ impl Table<'_> {
 
     // What a step does with that budget left, or how it ends the shift.
     fn plan(&self, left: u32) -> Result<Task, Ending>
-        requires { self.now.loaded ≡ true }
-        ensures { shown_plan result ≡ planned (machine.plan (took self.now) (view self.now.rows) (machine.next (took self.now) (view self.now.rows)) left) }
+        ensures { shown_plan result ≡ plan_of left (view_of self.now) }
     {
-        let Some(task) = self.next() else {
-            return Err(Ending::Complete);
+        let Some(load) = &self.load else {
+            return Err(Ending::NotLoaded);
         };
+        let task = next(&self.rows, load).ok_or(Ending::Complete)?;
         if left == 0 {
             return Err(Ending::Spent);
         }
@@ -71,7 +59,7 @@ impl Table<'_> {
         }
     }
 
-    // Makes the call of the task.
+    // Makes the call of the task. A match and no closure: six closures handed out as one value would need an allocation.
     fn carry_out(&mut self, task: Task)
         ensures after { view_of self.new ≡ after (op_of task) (view_of self.old) }
         ensures kept { origin_of self.new ≡ origin_of self.old }
@@ -106,9 +94,6 @@ impl Table<'_> {
         ensures promise { KeepsPromise self.new }
     {
         let Shift { left, done } = shift;
-        if !self.loaded {
-            return Step::Ended(Ending::NotLoaded, done);
-        }
         match self.plan(left) {
             Err(ending) => Step::Ended(ending, done),
             Ok(task) => {

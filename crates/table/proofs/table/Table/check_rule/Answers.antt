@@ -1,23 +1,22 @@
 use Rattle.machine.specs.Checking.{rule_effect}
 use Rattle.machine.specs.Calls.{check_rule, rule_fault}
 use Rattle.machine.specs.Tables.{answered, outcome}
-use Rattle.table.specs.Tabled.{took}
-use Rattle.table.proofs.After.{holds, still, called}
-use Rattle.table.proofs.Ghosts.{tidy}
+use Rattle.rows.specs.View.{raw}
+use Rattle.table.proofs.After.{taken, holds, still, called}
 use Rattle.table.proofs.table.Table.check_rule.Goals as goal
 
-pub check_rule-requires : goal.check_rule-requires
-check_rule-requires c = let t = c.args.self.now in record { tidy = tidy t; standing = (took t, (holds t c.if-not-self.false).stands) }
+pub check_rule-requires-clause-standing : goal.check_rule-requires-clause-standing
+check_rule-requires-clause-standing c = let t = c.args.self.now in (taken t _ c.in-Some.is, (holds t _ c.in-Some.is).stands)
 
-pub invariant_of-self : goal.invariant_of-self
-invariant_of-self c =
+pub invariant_of-self-2 : goal.invariant_of-self-2
+invariant_of-self-2 c =
     let t = c.args.self.now in
-    let h = c.if-not-self.false in
-    still t h c.check_rule.new.self (check_rule c.args.e c.args.i) (c.check_rule.ensures.after (took t) (holds t h).stands)
+    let is = c.in-Some.is in
+    still t _ is (check_rule c.args.e c.args.i) (raw c.check_rule.new.self) (c.check_rule.ensures.after _ (holds t _ is).stands)
 
 pub returns : goal.returns
 returns c =
     let t = c.args.self.now in
-    let h = c.if-not-self.false in
-    called t h c.check_rule.new.self (check_rule c.args.e c.args.i) (c.check_rule.ensures.after (took t) (holds t h).stands)
-    (λ L s. answered (rule_fault L s c.args.e c.args.i) (outcome (rule_effect L s c.args.e c.args.i))) _ (c.check_rule.ensures.is (took t) (holds t h).stands)
+    let is = c.in-Some.is in
+    called t _ is (check_rule c.args.e c.args.i) (raw c.check_rule.new.self) (c.check_rule.ensures.after _ (holds t _ is).stands)
+    (λ L s. answered (rule_fault L s c.args.e c.args.i) (outcome (rule_effect L s c.args.e c.args.i))) _ (c.check_rule.ensures.is _ (holds t _ is).stands)

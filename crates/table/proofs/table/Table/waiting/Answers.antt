@@ -3,5 +3,5 @@ use Rattle.rows.specs.View.{raw}
 use Rattle.rows.proofs.Shown.{waits_are}
 use Rattle.table.proofs.table.Table.waiting.Goals as goal
 
-pub returns-then-self : goal.returns-then-self
-returns-then-self c = let e = waits_are (raw c.args.self.now.rows) in search rules
+pub returns : goal.returns
+returns c = let e = waits_are (raw c.args.self.now.rows) in search rules
