@@ -1,5 +1,5 @@
 use Rattle.std.proofs.Common.{true, false, Ok, ap, ◌∙◌}
-use Rattle.table.proofs.After.{holds, ends}
+use Rattle.table.proofs.After.{ends}
 use Rattle.table.proofs.Asked.{cell_asked}
 use Rattle.table.proofs.table.Table.cell.Goals as goal
 

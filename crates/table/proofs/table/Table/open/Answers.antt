@@ -1,4 +1,4 @@
-use Rattle.std.proofs.Common.{◌≡◌, length, ap}
+use Rattle.std.proofs.Common.{length, ap}
 use Rattle.rows.specs.Sources.{kinds_of}
 use Rattle.table.proofs.Taken.{fits, opened}
 use Rattle.table.proofs.table.Table.open.Goals as goal
