@@ -25,6 +25,10 @@ record_words m l n = map (tagged tag.Record) (upto (lead m l) n)
 unfoldable pub links_words : Meaning → ℕ → List ℕ
 links_words m n = flat_map link_words (upto (row_of m) n)
 
+-- each of the first n calls of a closure returns what f gives
+abbrev pub Told : (ℕ → ℕ → Type 0) → ℕ → (ℕ → ℕ) → Type 0
+Told post n f = (i v : ℕ) → i < n → post i v → v ≡ f i
+
 -- the first n records of a link fit the field of a word
 abbrev pub LeadsFit : Meaning → ℕ → ℕ → Type 0
 LeadsFit m l n = (r : ℕ) → r < n → lead m l r < 65536

@@ -9,6 +9,7 @@ use crate::writing::parts::put_file;
 use words::faults::{Fault, Refusal};
 
 pub mod checks;
+pub mod each;
 pub mod parts;
 
 // Why a register is not written.
