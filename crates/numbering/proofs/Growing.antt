@@ -1,23 +1,28 @@
 -- From entry to entry: the lists of those met, as the loops make them.
 use Rattle.std.proofs.Common.{◌≡◌, ℕ, zero, suc, ◌+◌, ◌-◌, ◌<◌, ◌≤◌, List, [], ◌∷◌, length, None, sym, refl, ap, ◌∙◌, subst, add-zero, add-one, arith}
+use mathlib.Core.Logic.{∥∥₁_elim}
+use native.Mathlib.Nat.{ℕ_set}
+use native.Mathlib.Bridge.{le_prop}
 use Rattle.machine.specs.State.{cell, landing}
 use Rattle.machine.specs.Sequence.{nth, met_in, of_kind, of_cells}
-use Rattle.rows.specs.Layout.{Raw, Shape, Fits, count, shown}
-use Rattle.numbering.specs.declared.Numbering.{Numbering}
-use Rattle.numbering.specs.Marked.{Numbered, Counting, Grows, visited, of_kinds, of_rows, row}
-use Rattle.numbering.proofs.Kept.{fits, same_given, nth_row, met_short}
+use Rattle.rows.specs.Layout.{Raw, Shape, count, shown}
+use Rattle.numbering.specs.Marked.{Kept, Numbered, Counting, visited, of_kinds, of_rows, row}
+use Rattle.numbering.specs.Count.{Seen, Meets}
+use Rattle.numbering.proofs.Kept.{same_given, nth_row, met_short}
 
-module _ (b : Raw) (n : Numbering) (c : Raw) (o : Numbering) where
-  pub still_counting : (f : Raw → List ℕ → List ℕ) → Grows f b n c o → Counting b n → Counting c o
-  still_counting f g u = (u.0, f u.0 u.1, g u.0 u.1 u.2)
+-- one after another
+pub meets_then : {n o p : Seen} (f g h : Raw → List ℕ → List ℕ) → Meets f n o → Meets g o p → ((a : Raw) (xs : List ℕ) → h a xs ≡ g a (f a xs)) → Meets h n p
+meets_then {n} {o} {p} f g h u v e = record {
+  same = v.same ∙ u.same;
+  grows = λ a xs m. subst (λ (ys : List ℕ). Numbered a p.rows ys p.numbering.met p.numbering.counts) (sym (e a xs)) (v.grows a (f a xs) (u.grows a xs m));
+}
 
-  -- one after another
-  pub grows_then : (f g h : Raw → List ℕ → List ℕ) (d : Raw) (p : Numbering) → Grows f b n c o → Grows g c o d p → ((a : Raw) (xs : List ℕ) → h a xs ≡ g a (f a xs)) → Grows h b n d p
-  grows_then f g h d p u v e a xs m = subst (λ (ys : List ℕ). Numbered a d ys p.met p.counts) (sym (e a xs)) (v a (f a xs) (u a xs m))
-
-  -- to the end of a loop
-  pub grows_to : (f : Raw → ℕ → List ℕ → List ℕ) (i : ℕ) (j : Shape → ℕ) → i ≡ j b.shape → Grows (λ a xs. f a i xs) b n c o → Grows (λ a xs. f a (j a.shape) xs) b n c o
-  grows_to f i j e u a xs m = subst (λ (k : ℕ). Numbered a c (f a k xs) o.met o.counts) (e ∙ ap (λ (r : Raw). j r.shape) m.marked.kept.numbers) (u a xs m)
+-- to the end of a loop
+pub meets_to : {n o : Seen} (f : Raw → ℕ → List ℕ → List ℕ) (i : ℕ) (j : Shape → ℕ) → i ≡ j n.rows.shape → Meets (λ a xs. f a i xs) n o → Meets (λ a xs. f a (j a.shape) xs) n o
+meets_to {n} {o} f i j e u = record {
+  same = u.same;
+  grows = λ a xs m. subst (λ (k : ℕ). Numbered a o.rows (f a k xs) o.numbering.met o.numbering.counts) (e ∙ ap (λ (r : Raw). j r.shape) m.marked.kept.numbers) (u.grows a xs m);
+}
 
 -- one more cell, landing, kind or row
 pub cells_more : (e l : ℕ) (a : Raw) (xs : List ℕ) → of_cells (shown a) e (l + 1) xs ≡ met_in ((shown a).held (cell e l)) (of_cells (shown a) e l xs)
@@ -36,38 +41,42 @@ pub rows_more : (i : ℕ) (a : Raw) (xs : List ℕ) → of_rows a (i + 1) xs ≡
 unfolding of_rows
 rows_more i a xs = rw add-one refl
 
-pub cells_none : (b : Raw) (n : Numbering) (e : ℕ) → Grows (λ a xs. of_cells (shown a) e 0 xs) b n b n
-unfolding of_cells
-cells_none b n e a xs m = m
+module _ (n : Seen) where
+  pub cells_none : (e : ℕ) → Meets (λ a xs. of_cells (shown a) e 0 xs) n n
+  unfolding of_cells
+  cells_none e = record { same = refl; grows = λ a xs m. m }
 
-pub kind_none : (b : Raw) (n : Numbering) (k : ℕ) → Grows (λ a xs. of_kind (shown a) k 0 xs) b n b n
-unfolding of_kind
-kind_none b n k a xs m = m
+  pub kind_none : (k : ℕ) → Meets (λ a xs. of_kind (shown a) k 0 xs) n n
+  unfolding of_kind
+  kind_none k = record { same = refl; grows = λ a xs m. m }
 
-pub kinds_none : (b : Raw) (n : Numbering) → Grows (λ a xs. of_kinds a 0 xs) b n b n
-unfolding of_kinds
-kinds_none b n a xs m = m
+  pub kinds_none : Meets (λ a xs. of_kinds a 0 xs) n n
+  unfolding of_kinds
+  kinds_none = record { same = refl; grows = λ a xs m. m }
 
-pub rows_none : (b : Raw) (n : Numbering) → Grows (λ a xs. of_rows a 0 xs) b n b n
-unfolding of_rows
-rows_none b n a xs m = m
+  pub rows_none : Meets (λ a xs. of_rows a 0 xs) n n
+  unfolding of_rows
+  rows_none = record { same = refl; grows = λ a xs m. m }
 
--- a table under numbering
-module _ (b : Raw) (n : Numbering) (u : Counting b n) where
-  pub counting_fits : Fits b
-  counting_fits = fits u.0 u.1 b u.2.marked.kept
+  pub met_below : Counting n.rows n.numbering → (i : ℕ) → i < n.numbering.met → i < n.rows.given
+  met_below c i h = ∥∥₁_elim c le_prop (λ x. omega (arith, met_short x.0 x.1 n.rows x.2.marked.kept, x.2.tallied.size))
 
-  pub met_below : (i : ℕ) → i < n.met → i < b.given
-  met_below i h = omega (arith, met_short u.0 u.1 b u.2.marked.kept, u.2.tallied.size)
+-- what no meeting changes
+module _ {n o : Seen} {f : Raw → List ℕ → List ℕ} (u : Meets f n o) (c : Counting n.rows n.numbering) where
+  same_number : (j : Raw → ℕ) → ((a : Raw) (xs : List ℕ) (b : Raw) → Kept a b xs → j b ≡ j a) → j o.rows ≡ j n.rows
+  same_number j same = ∥∥₁_elim c (ℕ_set _ _) (λ x. same x.0 (f x.0 x.1) o.rows (u.grows x.0 x.1 x.2).marked.kept ∙ sym (same x.0 x.1 n.rows x.2.marked.kept))
 
-  pub grown_given : (c : Raw) (o : Numbering) (f : Raw → List ℕ → List ℕ) → Grows f b n c o → c.given ≡ b.given
-  grown_given c o f g = same_given u.0 (f u.0 u.1) c (g u.0 u.1 u.2).marked.kept ∙ sym (same_given u.0 u.1 b u.2.marked.kept)
+  pub meets_given : o.rows.given ≡ n.rows.given
+  meets_given = same_number (λ r. r.given) same_given
 
-  pub grown_shape : (c : Raw) (o : Numbering) (f : Raw → List ℕ → List ℕ) → Grows f b n c o → c.shape ≡ b.shape
-  grown_shape c o f g = ap (λ (r : Raw). r.shape) (g u.0 u.1 u.2).marked.kept.numbers ∙ sym (ap (λ (r : Raw). r.shape) u.2.marked.kept.numbers)
+  pub meets_kinds : o.rows.shape.kinds ≡ n.rows.shape.kinds
+  meets_kinds = same_number (λ r. r.shape.kinds) (λ a xs b k. ap (λ (r : Raw). r.shape.kinds) k.numbers)
 
-pub visits : (b : Raw) (n : Numbering) (c : Raw) (o : Numbering) (i e : ℕ) → i < n.met → e ≡ row b i 2 → Grows (λ a xs. of_cells (shown a) e a.shape.links xs) b n c o → Grows (λ a xs. visited a i xs) b n c o
-visits b n c o i e h q g a xs m = rw (nth_row a xs b m.marked.kept i (omega (arith, m.tallied.size)), ← q) (g a xs m)
+pub visits : {n o : Seen} (i e : ℕ) → i < n.numbering.met → e ≡ row n.rows i 2 → Meets (λ a xs. of_cells (shown a) e a.shape.links xs) n o → Meets (λ a xs. visited a i xs) n o
+visits {n} i e h q u = record {
+  same = u.same;
+  grows = λ a xs m. rw (nth_row a xs n.rows m.marked.kept i (omega (arith, m.tallied.size)), ← q) (u.grows a xs m);
+}
 
 -- past the last of those met, visiting changes nothing
 nth_past : (xs : List ℕ) (i : ℕ) → length xs ≤ i → nth xs i ≡ None
@@ -84,9 +93,12 @@ rows_stay a xs i (suc d) h =
     let z : nth (of_rows a i xs) (i + d) ≡ None = nth_past (of_rows a i xs) (i + d) (omega arith) in
     rw (p, rows_more (i + d) a xs, s, z) refl
 
-pub rows_end : (b : Raw) (n : Numbering) (c : Raw) (o : Numbering) (i : ℕ) → Grows (λ a xs. of_rows a i xs) b n c o → o.met ≤ i → i ≤ c.given → Grows (λ a xs. of_rows a a.given xs) b n c o
-rows_end b n c o i u h l a xs m =
-    let g = u a xs m in
-    let e : i + (a.given - i) ≡ a.given = omega (arith, same_given a (of_rows a i xs) c g.marked.kept) in
-    let z : of_rows a i xs ≡ of_rows a a.given xs = sym (rows_stay a xs i (a.given - i) (omega (arith, g.tallied.size))) ∙ ap (λ (j : ℕ). of_rows a j xs) e in
-    subst (λ (ys : List ℕ). Numbered a c ys o.met o.counts) z g
+pub rows_end : {n o : Seen} (i : ℕ) → Meets (λ a xs. of_rows a i xs) n o → o.numbering.met ≤ i → i ≤ o.rows.given → Meets (λ a xs. of_rows a a.given xs) n o
+rows_end {n} {o} i u h l = record {
+  same = u.same;
+  grows = λ a xs m.
+      let g = u.grows a xs m in
+      let e : i + (a.given - i) ≡ a.given = omega (arith, same_given a (of_rows a i xs) o.rows g.marked.kept) in
+      let z : of_rows a i xs ≡ of_rows a a.given xs = sym (rows_stay a xs i (a.given - i) (omega (arith, g.tallied.size))) ∙ ap (λ (j : ℕ). of_rows a j xs) e in
+      subst (λ (ys : List ℕ). Numbered a o.rows ys o.numbering.met o.numbering.counts) z g;
+}

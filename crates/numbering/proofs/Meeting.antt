@@ -1,5 +1,7 @@
 -- Meeting an entry, in the words.
 use Rattle.std.proofs.Common.{◌≡◌, ℕ, ◌+◌, ◌<◌, ◌≤◌, true, false, cond, ◌&&◌, eqb, List, [], ◌∷◌, ◌++◌, length, get_or, set, Some, None, Option, sym, refl, ap, ◌∙◌, subst, inl, inr, arith}
+use mathlib.Core.Logic.{∥∥₁_elim, ∥∥₁_map}
+use native.Mathlib.Bridge.{le_prop}
 use Rattle.std.proofs.lemmas.List.{length-set, length_push, get_or-set_same, get_or-set_other}
 use Rattle.std.proofs.lemmas.Bool.{cases_Bool, cases_eq}
 use Rattle.std.proofs.lemmas.Bool.Decides.{nat_tests, eqb_tells}
@@ -8,11 +10,11 @@ use Rattle.machine.specs.Sequence.{member, met, met_in}
 use Rattle.machine.specs.Finish.{tally, before}
 use Rattle.machine.proofs.Bounds.{tally_short}
 use Rattle.machine.proofs.Numbering.{Fine, met_fine, nth_split, nth_below}
-use Rattle.rows.specs.Layout.{Raw, Fits, place, shown}
+use Rattle.rows.specs.Layout.{Raw, place, shown}
 use Rattle.rows.specs.Writes.{over}
 use Rattle.rows.proofs.Places.{place_fits, word_set}
 use Rattle.numbering.specs.declared.Numbering.{Numbering}
-use Rattle.numbering.specs.Marked.{Kept, Marked, Tallied, Numbered, Fresh, Next, row}
+use Rattle.numbering.specs.Marked.{Kept, Marked, Tallied, Numbered, Fresh, Counting, Next, row}
 use Rattle.numbering.proofs.Lists.{member_push, tally_push, before_last, before_push}
 use Rattle.numbering.proofs.Kept.{Lives, fine, short, forward_row, fits, same_given, same_kinds, same_held, held_lives}
 
@@ -132,32 +134,20 @@ module _ (a b : Raw) (xs : List ℕ) (n : ℕ) (counts : List ℕ) (e : ℕ) (m 
     numbered_more at slot p q = rw (p, q) (record { marked = record { kept = kept_more; forwards = forward_more }; tallied = tallied_more })
 
 -- what the code needs for it
-pub record Held (b : Raw) (e : ℕ) : Type 0 where
-  pub fits : Fits b
-  pub below : e < b.given
-  pub within : e < b.shape.capacity
-
 pub record New (b : Raw) (n : Numbering) (kind : ℕ) : Type 0 where
   pub room : n.met < b.shape.capacity
   pub kind_small : kind < 32
   pub few : get_or n.counts kind 0 < 65536
 
-held_in : (a b : Raw) (xs : List ℕ) → Kept a b xs → (e : ℕ) → e < a.given → Held b e
-held_in a b xs k e h = record {
-  fits = fits a xs b k;
-  below = omega (arith, same_given a xs b k);
-  within = omega (arith, same_given a xs b k, (fits a xs b k).few);
-}
-
 module _ (b : Raw) (n : Numbering) (e : ℕ) (u : Next b n e) where
-  pub next_held : Held b e
-  next_held = held_in u.0 b u.1 u.2.marked.kept e u.3.below
+  pub next_below : e < b.given
+  next_below = ∥∥₁_elim u le_prop (λ x. omega (arith, x.3.below, same_given x.0 x.1 b x.2.marked.kept))
 
   pub next_new : (kind : ℕ) → kind ≡ (shown b).kind e → New b n kind
   next_new kind q = record {
-    room = room u.0 b u.1 n.met n.counts e u.2 u.3;
-    kind_small = kind_small u.0 b u.1 n.met n.counts e u.2 u.3 kind q;
-    few = few u.0 b u.1 n.met n.counts e u.2 u.3 kind q;
+    room = ∥∥₁_elim u le_prop (λ x. room x.0 b x.1 n.met n.counts e x.2 x.3);
+    kind_small = ∥∥₁_elim u le_prop (λ x. kind_small x.0 b x.1 n.met n.counts e x.2 x.3 kind q);
+    few = ∥∥₁_elim u le_prop (λ x. few x.0 b x.1 n.met n.counts e x.2 x.3 kind q);
   }
 
 -- what the code meets in a slot
@@ -172,9 +162,6 @@ module _ (a b : Raw) (xs : List ℕ) (n : ℕ) (counts : List ℕ) (m : Numbered
     here : Lives (shown a) e
     here = held_lives a xs b m.marked.kept t e held
 
-    pub meets_held : Held b e
-    meets_held = held_in a b xs m.marked.kept e here.0
-
     pub meets_met : 65536 ≤ row b e 1 → Numbered a b (met_in ((shown a).held t) xs) n counts
     meets_met h = rw (held_as (Some e) held, was_met a b xs m.marked e here h) m
 
@@ -183,3 +170,11 @@ module _ (a b : Raw) (xs : List ℕ) (n : ℕ) (counts : List ℕ) (m : Numbered
 
     pub meets_new : row b e 1 < 65536 → (c : Raw) (o : ℕ) (d : List ℕ) → (Fresh a xs e → Numbered a c (xs ++ e ∷ []) o d) → Numbered a c (met_in ((shown a).held t) xs) o d
     meets_new h c o d f = rw (held_as (Some e) held, met_new e xs (meets_fresh h).new) (f (meets_fresh h))
+
+-- and so in a table under numbering
+module _ (b : Raw) (n : Numbering) (u : Counting b n) (t : Slot) (e : ℕ) (held : (shown b).held t ≡ Some e) where
+  pub held_below : e < b.given
+  held_below = ∥∥₁_elim u le_prop (λ x. omega (arith, (here x.0 b x.1 n.met n.counts x.2 t e held).0, same_given x.0 x.1 b x.2.marked.kept))
+
+  pub held_next : row b e 1 < 65536 → Next b n e
+  held_next h = ∥∥₁_map u (λ x. (x.0, x.1, x.2, meets_fresh x.0 b x.1 n.met n.counts x.2 t e held h))

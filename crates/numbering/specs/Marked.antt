@@ -67,10 +67,10 @@ pub record Fresh (a : Raw) (xs : List ℕ) (e : ℕ) : Type 0 where
 
 -- under numbering, and where e is the next
 abbrev pub Counting : Raw → Numbering → Type 0
-Counting b n = (a : Raw) × (xs : List ℕ) × Numbered a b xs n.met n.counts
+Counting b n = ∥ ((a : Raw) × (xs : List ℕ) × Numbered a b xs n.met n.counts) ∥₁
 
 abbrev pub Next : Raw → Numbering → ℕ → Type 0
-Next b n e = (a : Raw) × (xs : List ℕ) × Numbered a b xs n.met n.counts × Fresh a xs e
+Next b n e = ∥ ((a : Raw) × (xs : List ℕ) × Numbered a b xs n.met n.counts × Fresh a xs e) ∥₁
 
 -- the entries met become f of those met before
 abbrev pub Grows : (Raw → List ℕ → List ℕ) → Raw → Numbering → Raw → Numbering → Type 0

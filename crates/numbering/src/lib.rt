@@ -8,7 +8,7 @@ ghost use Rattle.machine.specs.Sequence.{met_in, of_kind, of_cells, sequence};
 ghost use Rattle.rows.specs.Layout.{Raw, Carries, Becomes, count, shown};
 ghost use Rattle.rows.specs.View.{raw, view, slot};
 ghost use Rattle.numbering.specs.Listed.{Listed};
-ghost use Rattle.numbering.specs.Marked.{Countable, Ready, Marked, Numbered, Fresh, Counting, Next, Grows, visited, of_kinds, of_rows, Marks, Restored, Restoring};
+ghost use Rattle.numbering.specs.Marked.{Countable, Ready, Marked, Numbered, Fresh, Counting, Next, visited, of_kinds, of_rows, Marks, Restored, Restoring};
 
 use rows::{Rows, Slot};
 
@@ -22,87 +22,95 @@ pub struct Numbering {
     pub counts: [u32; 32],
 }
 
-impl Numbering {
-    // Meets `e` for the first time: it gets the next number of its kind.
-    fn mark(&mut self, rows: &mut Rows, e: u32)
-        requires { Next (raw rows.old) self.old e }
-        ensures { (a : Raw) (xs : List ℕ) → Numbered a (raw rows.old) xs self.old.met self.old.counts → Fresh a xs e →
-            Numbered a (raw rows.new) (xs ++ e ∷ []) self.new.met self.new.counts }
-    {
-        let kind = rows.kind(e) as usize;
-        let number = self.counts[kind];
-        let slot = rows.at(self.met, 2);
-        let at = rows.at(e as usize, 1);
-        rows.words[slot] = e;
-        rows.words[at] = MARK + number;
-        self.counts[kind] = number + 1;
-        self.met += 1;
-    }
+// A table whose entries are being met.
+#[derive(Drop)]
+struct Count<'a, 'b> {
+    rows: &'a mut Rows<'b>,
+    numbering: Numbering,
+    ghost counting: { Counting (raw rows.now) numbering },
+}
+
+// Meets `e` for the first time: it gets the next number of its kind.
+fn mark(rows: &mut Rows, numbering: &mut Numbering, e: u32)
+    requires { Next (raw rows.old) numbering.old e }
+    ensures { (a : Raw) (xs : List ℕ) → Numbered a (raw rows.old) xs numbering.old.met numbering.old.counts → Fresh a xs e →
+        Numbered a (raw rows.new) (xs ++ e ∷ []) numbering.new.met numbering.new.counts }
+{
+    let kind = rows.kind(e) as usize;
+    let number = numbering.counts[kind];
+    let slot = rows.at(numbering.met, 2);
+    let at = rows.at(e as usize, 1);
+    rows.words[slot] = e;
+    rows.words[at] = MARK + number;
+    numbering.counts[kind] = number + 1;
+    numbering.met += 1;
+}
+
+impl Count<'_, '_> {
+    ghost use Rattle.numbering.specs.Count.{seen, Meets};
 
     // Meets what the slot `t` holds.
-    fn meet(&mut self, rows: &mut Rows, t: Slot)
-        requires { Counting (raw rows.old) self.old }
-        ensures { Grows (λ a xs. met_in ((shown a).held (slot t)) xs) (raw rows.old) self.old (raw rows.new) self.new }
+    fn meet(&mut self, t: Slot)
+        ensures { Meets (λ a xs. met_in ((shown a).held (slot t)) xs) (seen self.old) (seen self.new) }
     {
-        if let Some(e) = rows.held(t) {
-            if rows.read(e as usize, 1) < MARK {
-                self.mark(rows, e);
-            }
+        let Some(e) = self.rows.held(t) else {
+            return;
+        };
+        if self.rows.read(e as usize, 1) < MARK {
+            mark(self.rows, &mut self.numbering, e);
         }
     }
 
     // Meets what the cells of `e` hold, by link.
-    fn meet_cells(&mut self, rows: &mut Rows, e: u32)
-        requires { Counting (raw rows.old) self.old }
-        ensures { Grows (λ a xs. of_cells (shown a) e a.shape.links xs) (raw rows.old) self.old (raw rows.new) self.new }
+    fn meet_cells(&mut self, e: u32)
+        ensures { Meets (λ a xs. of_cells (shown a) e a.shape.links xs) (seen self.old) (seen self.new) }
     {
-        let n = rows.links as u32;
+        let n = self.rows.links as u32;
         for l in 0..n {
-            self.meet(rows, Slot::Cell(e, l));
+            self.meet(Slot::Cell(e, l));
         }
     }
 
     // Meets what the landings of the source kind `k` hold, by record.
-    fn meet_kind(&mut self, rows: &mut Rows, k: u32)
-        requires counting { Counting (raw rows.old) self.old }
-        requires k_lt_kinds { k < rows.old.source.kinds }
-        ensures { Grows (λ a xs. of_kind (shown a) k (count a.shape k) xs) (raw rows.old) self.old (raw rows.new) self.new }
+    fn meet_kind(&mut self, k: u32)
+        requires { k < (raw self.old.rows.now).shape.kinds }
+        ensures { Meets (λ a xs. of_kind (shown a) k (count a.shape k) xs) (seen self.old) (seen self.new) }
     {
-        let n = rows.source.counts[k as usize];
+        let rows = &*self.rows;
+        let n = rows.source.kind(k).records;
         for q in 0..n {
-            self.meet(rows, Slot::Landing(k, q));
+            self.meet(Slot::Landing(k, q));
         }
     }
 
     // Meets what the landings hold, by source kind.
-    fn meet_landings(&mut self, rows: &mut Rows)
-        requires { Counting (raw rows.old) self.old }
-        ensures { Grows (λ a xs. of_kinds a a.shape.kinds xs) (raw rows.old) self.old (raw rows.new) self.new }
+    fn meet_landings(&mut self)
+        ensures { Meets (λ a xs. of_kinds a a.shape.kinds xs) (seen self.old) (seen self.new) }
     {
-        let n = rows.source.kinds as u32;
+        let rows = &*self.rows;
+        let n = rows.source.len() as u32;
         for k in 0..n {
-            self.meet_kind(rows, k);
+            self.meet_kind(k);
         }
     }
 
     // Meets what the cells of the entry that was met as number `i` hold.
-    fn visit(&mut self, rows: &mut Rows, i: usize)
-        requires counting { Counting (raw rows.old) self.old }
-        requires i_lt_met { i < self.old.met }
-        ensures { Grows (λ a xs. visited a i xs) (raw rows.old) self.old (raw rows.new) self.new }
+    fn visit(&mut self, i: usize)
+        requires { i < self.old.numbering.met }
+        ensures { Meets (λ a xs. visited a i xs) (seen self.old) (seen self.new) }
     {
-        let e = rows.read(i, 2);
-        self.meet_cells(rows, e);
+        let e = self.rows.read(i, 2);
+        self.meet_cells(e);
     }
 
     // Meets, for each entry that was met, what its cells hold.
-    fn visit_all(&mut self, rows: &mut Rows)
-        requires { Counting (raw rows.old) self.old }
-        ensures { Grows (λ a xs. of_rows a a.given xs) (raw rows.old) self.old (raw rows.new) self.new }
+    fn visit_all(&mut self)
+        ensures { Meets (λ a xs. of_rows a a.given xs) (seen self.old) (seen self.new) }
     {
+        // No `for`: visits meet more, so the end moves on the way.
         let mut i = 0;
-        while i < self.met {
-            self.visit(rows, i);
+        while i < self.numbering.met {
+            self.visit(i);
             i += 1;
         }
     }
@@ -114,13 +122,16 @@ pub fn number(rows: &mut Rows) -> Numbering
     ensures marked { (L : Loaded) → Carries L (raw rows.old).shape → Numbered (raw rows.old) (raw rows.new) (sequence L (view rows.old)) result.met result.counts }
     ensures listed { (L : Loaded) → Ready L (raw rows.old) → Listed L (view rows.old) (raw rows.new) result.met result.counts }
 {
-    let mut numbering = Numbering {
-        met: 0,
-        counts: [0; 32],
+    let mut count = Count {
+        rows,
+        numbering: Numbering {
+            met: 0,
+            counts: [0; 32],
+        },
     };
-    numbering.meet_landings(rows);
-    numbering.visit_all(rows);
-    numbering
+    count.meet_landings();
+    count.visit_all();
+    count.numbering
 }
 
 // The forward of the entry that was met as number `i` is that entry again.

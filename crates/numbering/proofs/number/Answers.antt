@@ -1,18 +1,19 @@
-use Rattle.std.proofs.Common.{[]}
+use Rattle.std.proofs.Common.{[], rules}
 use Rattle.rows.specs.View.{raw}
 use Rattle.numbering.proofs.Listing.{numbered_none, numbers_all, lists_all}
 use Rattle.numbering.proofs.number.Goals as goal
 
-pub meet_landings-requires : goal.meet_landings-requires
-meet_landings-requires c = (raw c.args.rows.now, [], numbered_none (raw c.args.rows.now) c.requires)
+pub invariant_of-count : goal.invariant_of-count
+invariant_of-count c = record { counting = ∣ (raw c.args.rows.now, [], numbered_none (raw c.args.rows.now) c.requires) ∣₁ }
 
-pub visit_all-requires : goal.visit_all-requires
-visit_all-requires c = (raw c.args.rows.now, _, c.meet_landings.ensures (raw c.args.rows.now) [] (numbered_none (raw c.args.rows.now) c.requires))
+pub returns-clause-marked : goal.returns-clause-marked
+returns-clause-marked c L k =
+    let r = raw c.args.rows.now in
+    let n = numbers_all r _ (raw c.visit_all.new.self.rows.now) _ _ c.visit_all.new.self.numbering (numbered_none r c.requires) c.meet_landings.ensures.grows c.visit_all.ensures.grows L k in
+    search rules
 
-pub returns : goal.returns
-returns c = record {
-  marked = numbers_all (raw c.args.rows.now) (raw c.meet_landings.new.rows) (raw c.visit_all.new.rows) _ c.meet_landings.new.self c.visit_all.new.self
-      (numbered_none (raw c.args.rows.now) c.requires) c.meet_landings.ensures c.visit_all.ensures;
-  listed = lists_all (raw c.args.rows.now) (raw c.meet_landings.new.rows) (raw c.visit_all.new.rows) _ c.meet_landings.new.self c.visit_all.new.self
-      (numbered_none (raw c.args.rows.now) c.requires) c.meet_landings.ensures c.visit_all.ensures;
-}
+pub returns-clause-listed : goal.returns-clause-listed
+returns-clause-listed c L k =
+    let r = raw c.args.rows.now in
+    let n = lists_all r _ (raw c.visit_all.new.self.rows.now) _ _ c.visit_all.new.self.numbering (numbered_none r c.requires) c.meet_landings.ensures.grows c.visit_all.ensures.grows L k in
+    search rules
