@@ -24,7 +24,7 @@ module _ (a b : Raw) (f : Found) (met : ℕ) (counts : List ℕ) (L : Loaded) (x
         copies = λ i c. k.low i (omega (arith, copied_low a k.from.tidy.fits i c, ap (λ (h : Shape). h.base) shape));
       }
 
-  pub still_stands : Stands L b f
+  still_stands : Stands L b f
   still_stands = same_stands L a b f same x.stands
 
   pub writes : (Ready L a → Listed L (shown a) b met counts) → ∥ Writes L (shown a) b f met counts ∥₁

@@ -31,7 +31,6 @@ module _ (b : Raw) (from l i e : ℕ) (is : e ≡ nth_entry b i) where
 -- the first m of the sequence
 pub led_first : (b : Raw) (from l m n : ℕ) → m ≤ n → Led b from l n → Led b from l m
 led_first b from l m n h led = record {
-  fits = led.fits;
   room = omega (arith, led.room);
   known = λ i k. led.known i (omega arith);
   numbered = λ i k. led.numbered i (omega arith);

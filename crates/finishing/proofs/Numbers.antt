@@ -57,7 +57,6 @@ module _ (L : Loaded) (s : State) (b : Raw) (met : ℕ) (counts : List ℕ) (x :
 
     pub led : Led b (L.from l) l met
     led = record {
-      fits = x.fits;
       room = x.room;
       known = λ i h. x.known i (nth_entry b i) (x.slots i h);
       numbered = λ i h e. slot_numbered (cell (nth_entry b i) l) (filled i h (sym (kind_is (nth_entry b i)) ∙ e));

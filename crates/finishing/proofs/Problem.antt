@@ -9,11 +9,9 @@ use Rattle.problems.specs.Shown.{Seen}
 use Rattle.problems.proofs.Layouts.{read_layout}
 use Rattle.machine.specs.Loaded.{Loaded}
 use Rattle.machine.specs.Loading.{taken}
-use Rattle.rows.specs.Layout.{Raw, count}
-use Rattle.rows.specs.Standing.{Stands, Standing}
-use Rattle.rows.proofs.Outline.{source_kinds_are}
+use Rattle.rows.specs.Layout.{Raw, Fits, count}
+use Rattle.rows.specs.Standing.{Stands}
 use Rattle.rows.proofs.Places.{sum_more}
-use Rattle.finishing.specs.Records.{Landed}
 
 module _ (L : Loaded) (b : Raw) (f : Found) (st : Stands L b f) where
   well : WellFormed st.problem
@@ -28,9 +26,6 @@ module _ (L : Loaded) (b : Raw) (f : Found) (st : Stands L b f) where
   pub few_kinds : L.target_kinds ≤ 32
   few_kinds = by_problem (λ M. M.target_kinds ≤ 32) well.target.few
 
-  pub few_links : L.links ≤ 64
-  few_links = by_problem (λ M. M.links ≤ 64) well.target.few_links
-
   pub ends_known : (l : ℕ) → l < L.links → (L.from l < L.target_kinds) × (L.to l < L.target_kinds)
   ends_known = by_problem (λ M. (l : ℕ) → l < M.links → (M.from l < M.target_kinds) × (M.to l < M.target_kinds))
       (λ l h. let g = All-get_or (GoodLink st.problem.target_kinds) st.problem.target_links l no_link h well.target.known in (g.from_known, g.to_known))
@@ -39,27 +34,10 @@ module _ (L : Loaded) (b : Raw) (f : Found) (st : Stands L b f) where
   map_known = by_problem (λ M. (k : ℕ) → k < M.source_kinds → M.kind_map k < M.target_kinds)
       (λ k h. All-get_or (λ t. t < st.problem.target_kinds) st.problem.kind_map k 0 (omega (arith, h, well.kinds_full)) well.kinds)
 
--- so the fields of the words are small
-module _ {b : Raw} {f : Found} (st : Standing b f) where
-  pub ends_small : {l : ℕ} → l < b.shape.links → (e : ℕ × ℕ) → ((L : Loaded) → Stands L b f → l < L.links → (L.from l ≡ e.0) × (L.to l ≡ e.1)) → (e.0 < 32) × (e.1 < 32)
-  ends_small {l} h e is =
-      let L : Loaded = st.0 in
-      let k : l < L.links = omega (arith, st.1.links) in
-      let q = is L st.1 k in
-      let n = ends_known L b f st.1 l k in
-      let m = few_kinds L b f st.1 in
-      (omega (arith, q.0, n.0, m), omega (arith, q.1, n.1, m))
-
-  pub landing_small : Landed b f → {k : ℕ} → k < b.shape.kinds → (to : ℕ) → ((L : Loaded) → Stands L b f → k < L.source_kinds → L.kind_map k ≡ to) →
+  -- so the fields of the words of landings are small
+  pub landing_small : Fits b → L.source_kinds ≡ b.shape.kinds → {k : ℕ} → k < b.shape.kinds → (to : ℕ) → (k < L.source_kinds → L.kind_map k ≡ to) →
       count b.shape k * 65536 + k * 256 + to < 268435456
-  landing_small d {k} h to is =
-      let L : Loaded = st.0 in
-      let j : k < L.source_kinds = omega (arith, d.kinds, source_kinds_are L b f st.1) in
+  landing_small x kinds {k} h to is =
+      let j : k < L.source_kinds = omega arith in
       let m = sum_more (count b.shape) b.shape.kinds k h in
-      let t = is L st.1 j in
-      let n = map_known L b f st.1 k j in
-      let x = few_kinds L b f st.1 in
-      let y = d.fits.total in
-      let z = d.fits.lot in
-      let u = d.fits.sorts in
-      omega arith
+      omega (arith, m, is j, map_known k j, few_kinds, x.total, x.lot, x.sorts)

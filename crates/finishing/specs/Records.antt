@@ -2,10 +2,9 @@
 use Rattle.std.specs.Prelude.{◌≡◌, ℕ, zero, suc, ◌+◌, ◌-◌, ◌*◌, ◌<◌, ◌≤◌, cond, List, [], ◌∷◌, ◌++◌, map, Some, ◌==◌}
 use Rattle.words.specs.declared.tags.Tag.TheVariants as tag
 use Rattle.words.specs.Tags.{tagged}
-use Rattle.problems.specs.declared.Found.{Found}
 use Rattle.registers.specs.Writing.{upto}
 use Rattle.machine.specs.State.{Slot, cell, landing, on}
-use Rattle.rows.specs.Layout.{Raw, Fits, count, shown, word}
+use Rattle.rows.specs.Layout.{Raw, count, shown, word}
 
 -- f 0, f 1 and so on, n of them, one behind another
 unfoldable pub appended : (ℕ → List ℕ) → ℕ → List ℕ
@@ -33,7 +32,6 @@ lead_word b from l i = cond ((shown b).kind (nth_entry b i) == from) (tagged tag
 
 -- the first n of the sequence are entries, and where they have the kind that the link leaves, what their cells hold has a number
 pub record Led (b : Raw) (from l n : ℕ) : Type 0 where
-  pub fits : Fits b
   pub room : n ≤ b.given
   pub known : (i : ℕ) → i < n → nth_entry b i < b.given
   pub numbered : (i : ℕ) → i < n → (shown b).kind (nth_entry b i) ≡ from → Numbered b (cell (nth_entry b i) l)
@@ -45,9 +43,3 @@ landed_words b k n = map (tagged tag.Record) (upto (λ q. number_in b (landing k
 -- the words of the landings of a source kind that is mapped to a target kind
 unfoldable pub landing_part : Raw → ℕ → ℕ → List ℕ
 landing_part b to k = tagged tag.Landings (count b.shape k * 65536 + k * 256 + to) ∷ landed_words b k (count b.shape k)
-
--- the problem's source kinds have landings, and what they hold has numbers
-pub record Landed (b : Raw) (f : Found) : Type 0 where
-  pub fits : Fits b
-  pub kinds : f.source.kinds ≡ b.shape.kinds
-  pub numbered : (k q : ℕ) → k < b.shape.kinds → q < count b.shape k → Numbered b (landing k q)

@@ -6,14 +6,11 @@ ghost use Rattle.machine.specs.Loaded.{Loaded};
 ghost use Rattle.machine.specs.State.{State};
 ghost use Rattle.machine.specs.Finish.{finish_words, put_words};
 ghost use Rattle.rows.specs.Layout.{Becomes};
-ghost use Rattle.rows.specs.Standing.{Standing};
 ghost use Rattle.rows.specs.View.{raw, view};
 ghost use Rattle.numbering.specs.Marked.{Countable};
 ghost use Rattle.finishing.specs.Written.{Writes, Writing, Finishes, Finishing};
 
-use crate::parts::put_file;
-use crate::sizes::size;
-use numbering::{number, restore};
+use numbering::{Numbering, number, restore};
 use problems::Found;
 use rows::Rows;
 use words::faults::Refusal;
@@ -22,23 +19,29 @@ mod parts;
 mod records;
 mod sizes;
 
-// Writes the register file of a complete table whose numbering stands in its words; tells how many words.
-// A refusal changes nothing, and what stands behind the words is kept.
-fn write(
-    rows: &Rows,
-    found: &Found,
-    met: usize,
-    counts: &[u32; 32],
-    out: &mut [u32],
-) -> Result<usize, Refusal>
-    requires standing { Standing (raw rows.now) found.now }
-    requires writing { Writing (raw rows.now) found.now met counts.now }
-    ensures { (L : Loaded) (s : State) → ∥ Writes L s (raw rows.now) found.now met counts.now ∥₁ → (result, out.new) ≡ put_words None (finish_words L s) out.old }
-{
-    if size(rows, found, counts) > out.len() {
-        return Err(Refusal::Memory);
+// A complete table whose numbering stands in its words, and what was found in its problem.
+// It is no `Register`: the entries stand in the order of the sequence, so each call of `follow` would search them for those of one kind.
+#[derive(Clone, Copy)]
+struct Listing<'a> {
+    rows: &'a Rows<'a>,
+    found: &'a Found,
+    numbering: &'a Numbering,
+    ghost writing: { Writing (raw rows.now) found.now numbering.now.met numbering.now.counts },
+}
+
+impl Listing<'_> {
+    // Writes the register file to the front of the output; tells how many words.
+    // A refusal changes nothing, and what stands behind the words is kept.
+    fn write(&self, out: &mut [u32]) -> Result<usize, Refusal>
+        ensures { (L : Loaded) (s : State) →
+            ∥ Writes L s (raw self.now.rows.now) self.now.found.now self.now.numbering.now.met self.now.numbering.now.counts ∥₁ →
+            (result, out.new) ≡ put_words None (finish_words L s) out.old }
+    {
+        if self.size() > out.len() {
+            return Err(Refusal::Memory);
+        }
+        Ok(self.put_file(out))
     }
-    Ok(put_file(rows, found, met, counts, out))
 }
 
 // Finishes a complete table: its register file goes to the front of the output, or nothing where that is too short; tells how many words.
@@ -50,7 +53,12 @@ pub fn finish(rows: &mut Rows, found: &Found, out: &mut [u32]) -> Result<usize, 
     ensures after { Becomes (raw rows.old) (λ s. s) (raw rows.new) }
 {
     let numbering = number(rows);
-    let answer = write(rows, found, numbering.met, &numbering.counts, out);
+    let listing = Listing {
+        rows,
+        found,
+        numbering: &numbering,
+    };
+    let answer = listing.write(out);
     restore(rows, numbering.met);
     answer
 }

@@ -1,19 +1,17 @@
 // The record words of links and landings.
 ghost use Rattle.std.specs.Prelude.{◌≡◌, ℕ, ◌+◌, ◌<◌, ◌≤◌, length};
 ghost use Rattle.registers.specs.Splices.{spliced};
-ghost use Rattle.machine.specs.State.{landing};
-ghost use Rattle.rows.specs.Layout.{Fits};
 ghost use Rattle.rows.specs.View.{raw, slot};
-ghost use Rattle.finishing.specs.Records.{appended, number_in, Numbered, lead_word, Led, landed_words};
+ghost use Rattle.finishing.specs.Records.{appended, number_in, Numbered, lead_word, Led};
 
+use crate::Listing;
 use registers::writing::parts::put;
 use rows::{Rows, Slot};
 use words::tags::Tag;
 
 // The number of the entry that the slot `t` holds.
-fn number_in(rows: &Rows, t: Slot) -> u32
-    requires rows_fit { Fits (raw rows.now) }
-    requires numbered { Numbered (raw rows.now) (slot t) }
+pub(crate) fn number_in(rows: &Rows, t: Slot) -> u32
+    requires { Numbered (raw rows.now) (slot t) }
     ensures is { result ≡ number_in (raw rows.now) (slot t) }
     ensures fits { result < 65536 }
 {
@@ -39,31 +37,17 @@ fn put_lead(rows: &Rows, from: u32, link: u32, i: usize, out: &mut [u32], at: us
     at + 1
 }
 
-// Puts the record words of a link that leaves the kind `from`.
-pub(crate) fn put_leads(rows: &Rows, met: usize, from: u32, link: u32, out: &mut [u32], at: usize)
-    requires led { Led (raw rows.now) from link met }
-    requires met_in_bounds { at + length (appended (lead_word (raw rows.now) from link) met) ≤ length out.old }
-    ensures { out.new ≡ spliced at (appended (lead_word (raw rows.now) from link) met) out.old }
-{
-    let mut next = at;
-    for i in 0..met {
-        next = put_lead(rows, from, link, i, out, next);
-    }
-}
-
-// Puts the record words of the first `n` landings of the source kind `k`.
-pub(crate) fn put_landed(rows: &Rows, k: u32, n: u32, out: &mut [u32], at: usize)
-    requires fits { Fits (raw rows.now) }
-    requires by_index { (q : ℕ) → q < n → Numbered (raw rows.now) (landing k q) }
-    requires n_in_bounds { at + n ≤ length out.old }
-    ensures { out.new ≡ spliced at (landed_words (raw rows.now) k n) out.old }
-{
-    for q in 0..n {
-        put(
-            out,
-            at + q as usize,
-            Tag::Record,
-            number_in(rows, Slot::Landing(k, q)),
-        );
+impl Listing<'_> {
+    // Puts the record words of a link that leaves the kind `from`.
+    // A loop that carries the place: only the call that puts a record tells whether it took one.
+    pub(crate) fn put_leads(&self, from: u32, link: u32, out: &mut [u32], at: usize)
+        requires led { Led (raw self.now.rows.now) from link self.now.numbering.now.met }
+        requires met_in_bounds { at + length (appended (lead_word (raw self.now.rows.now) from link) self.now.numbering.now.met) ≤ length out.old }
+        ensures { out.new ≡ spliced at (appended (lead_word (raw self.now.rows.now) from link) self.now.numbering.now.met) out.old }
+    {
+        let mut next = at;
+        for i in 0..self.numbering.met {
+            next = put_lead(self.rows, from, link, i, out, next);
+        }
     }
 }

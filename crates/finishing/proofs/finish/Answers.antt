@@ -1,14 +1,14 @@
 use Rattle.machine.specs.Sequence.{sequence}
 use Rattle.rows.specs.View.{raw, view}
-use Rattle.finishing.proofs.AfterNumbering.{still_stands, writes, writing}
+use Rattle.finishing.proofs.AfterNumbering.{writes, writing}
 use Rattle.finishing.proofs.finish.Goals as goal
 
-pub write-answer-requires : goal.write-answer-requires
-write-answer-requires c =
+pub invariant_of-listing : goal.invariant_of-listing
+invariant_of-listing c =
     let L = c.requires.finishing.0 in
     let x = c.requires.finishing.1 in
     let n = c.number-numbering.ensures.marked L x.carries in
-    record { standing = (L, still_stands (raw c.args.rows.now) _ c.args.found.now _ _ L x n); writing = writing (raw c.args.rows.now) _ c.args.found.now _ _ L x n (c.number-numbering.ensures.listed L) }
+    record { writing = writing (raw c.args.rows.now) _ c.args.found.now _ _ L x n (c.number-numbering.ensures.listed L) }
 
 pub restore-requires : goal.restore-requires
 restore-requires c =

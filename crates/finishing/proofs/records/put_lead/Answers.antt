@@ -13,7 +13,7 @@ returns-then-kind-from c =
     record { next = omega (arith, ap length e); words = splice_none c.args.at c.args.out.now ∙ ap (λ x. spliced c.args.at x c.args.out.now) (sym e) }
 
 pub number_in-n-requires : goal.number_in-n-requires
-number_in-n-requires c = record { rows_fit = c.requires.led.fits; numbered = lead_numbered (raw c.args.rows.now) c.args.from c.args.link c.args.i c.read-e.result c.read-e.ensures (c.args.i + 1) c.requires.led (omega arith) (sym c.kind.ensures ∙ c.if-kind-from.false) }
+number_in-n-requires c = lead_numbered (raw c.args.rows.now) c.args.from c.args.link c.args.i c.read-e.result c.read-e.ensures (c.args.i + 1) c.requires.led (omega arith) (sym c.kind.ensures ∙ c.if-kind-from.false)
 
 pub put-requires : goal.put-requires
 put-requires c =
