@@ -15,6 +15,7 @@ pub fn put_each<F: Fn(u32) -> u32>(out: &mut [u32], at: usize, tag: Tag, n: u32,
     requires small { (i v : ℕ) → i < n → F.post fields i v → v < 268435456 }
     ensures { (f : ℕ → ℕ) → Told (F.post fields) n f → out.new ≡ spliced at (map (tagged tag) (upto f n)) out.old }
 {
+    // By the number: each word goes through `put`, which says what the whole output then holds.
     for i in 0..n {
         put(out, at + i as usize, tag, fields(i));
     }
