@@ -1,7 +1,8 @@
 // Carries a register as `extend` does, and tells in text what was done.
 #![tactic(auto)]
 
-use crate::telling::{tell_fault, tell_register, tell_schema, tell_source, tell_words};
+use crate::stop::Stop;
+use crate::telling::{tell_register, tell_schema, tell_source, tell_words};
 use extending::problem_size;
 use machine::answers::Ending;
 use problems::read_problem;
@@ -11,23 +12,17 @@ use registers::register::Register;
 use std::io;
 use streams::bytes::to_words;
 use streams::input::{LONG, fill};
+use streams::unblank::{BYTES, WORDS};
 use table::table::Table;
 use table::table::shift::Shift;
-use words::faults::{Fault, Refusal};
+use words::faults::Refusal;
 
+mod stop;
 mod telling;
-
-const BYTES: usize = 32768;
-
-const WORDS: usize = 8192;
 
 const WORK: usize = 12288;
 
 const BUDGET: u32 = 100000;
-
-fn refused(refusal: Refusal) -> Fault {
-    Fault { refusal, place: 0 }
-}
 
 // The schemas of a problem that is read, and its rules.
 fn tell_problem(rt: &impl Print, problem: &[u32]) -> io::Result<()> {
@@ -48,69 +43,66 @@ fn tell_numbers(rt: &impl Print, table: &Table) -> io::Result<()> {
     println!(rt; "entries: {given} given, {living} living, {dead} dead")
 }
 
+// Nothing, where the table is complete.
+fn completed(ending: Ending) -> Result<(), Refusal> {
+    match ending {
+        Ending::Complete => Ok(()),
+        Ending::Full => Err(Refusal::Full),
+        Ending::Spent => Err(Refusal::Incomplete),
+        Ending::NotLoaded => Err(Refusal::State),
+    }
+}
+
 // Plays a shift on a loaded table, and tells its end and the finished register.
-fn tell_shift(rt: &impl Print, table: &mut Table, out: &mut [u32]) -> io::Result<()> {
+fn tell_shift(rt: &impl Print, table: &mut Table, out: &mut [u32]) -> Result<(), Stop> {
     let capacity = table.capacity().unwrap_or(0);
     println!(rt; "capacity: {capacity} entries")?;
     let (ending, steps) = table.play(Shift::begin(BUDGET));
     println!(rt; "shift: {ending:?} after {steps} steps")?;
     tell_numbers(rt, table)?;
-    match ending {
-        Ending::Complete => match table.finish(out) {
-            Ok(count) => {
-                let words = &out[..count.min(out.len())];
-                tell_register(rt, words)?;
-                tell_words(rt, words)
-            }
-            Err(refusal) => tell_fault(rt, "finish", refused(refusal)),
-        },
-        Ending::Full => tell_fault(rt, "the shift", refused(Refusal::Full)),
-        Ending::Spent => tell_fault(rt, "the shift", refused(Refusal::Incomplete)),
-        Ending::NotLoaded => tell_fault(rt, "the shift", refused(Refusal::State)),
-    }
+    completed(ending).map_err(|refusal| Stop::refused("the shift", refusal.at(0)))?;
+    let count = table
+        .finish(out)
+        .map_err(|refusal| Stop::refused("finish", refusal.at(0)))?;
+    let words = &out[..count.min(out.len())];
+    tell_register(rt, words)?;
+    tell_words(rt, words)?;
+    Ok(())
 }
 
 // Loads a problem and a source, and goes on with the table.
-fn tell_load<R: Register>(
-    rt: &impl Print,
-    problem: &[u32],
-    source: &R,
-    out: &mut [u32],
-) -> io::Result<()> {
+fn tell_load<R: Register>(rt: &impl Print, problem: &[u32], source: &R) -> Result<(), Stop> {
     let mut work = [0; WORK];
     let mut table = Table::open(&mut work);
-    match table.load(problem, source) {
-        Ok(()) => {
-            tell_source(rt, source)?;
-            tell_shift(rt, &mut table, out)
-        }
-        Err(fault) => tell_fault(rt, "load", Fault::from(fault)),
-    }
+    table
+        .load(problem, source)
+        .map_err(|fault| Stop::refused("load", fault))?;
+    tell_source(rt, source)?;
+    tell_shift(rt, &mut table, &mut [0; WORDS])
 }
 
-// The job on the words of the input.
-fn tell_job(rt: &impl Print, words: &[u32]) -> io::Result<()> {
-    let size = problem_size(words).min(words.len());
-    let mut held = Held::new();
-    if let Err(fault) = held.take(&words[size..]) {
-        return tell_fault(rt, "the register", Fault::from(fault));
+// The job on the bytes of the input.
+fn tell_job(rt: &impl Print, input: &[u8]) -> Result<(), Stop> {
+    if input.len() > BYTES {
+        return Err(Stop::refused("the input", Refusal::Limit.at(WORDS)));
     }
-    tell_problem(rt, &words[..size])?;
-    let mut out = [0; WORDS];
-    tell_load(rt, &words[..size], &Blank::over(held), &mut out)
+    let mut words = [0; WORDS];
+    let size = to_words(input, &mut words);
+    let words = &words[..size];
+    let (problem, register) = words.split_at(problem_size(words).min(size));
+    let mut held = Held::new();
+    held.take(register)
+        .map_err(|fault| Stop::refused("the register", fault))?;
+    tell_problem(rt, problem)?;
+    tell_load(rt, problem, &Blank::over(held))
 }
 
 fn main(rt: HostRuntime) -> io::Result<()> {
     let mut input = [0; LONG];
     let count = fill(&mut rt.stdin(), &mut input)?;
-    if count > BYTES {
-        let fault = Fault {
-            refusal: Refusal::Limit,
-            place: WORDS,
-        };
-        return tell_fault(&rt, "the input", fault);
+    match tell_job(&rt, &input[..count]) {
+        Ok(()) => Ok(()),
+        Err(Stop::Refused(what, fault)) => println!(rt; "{what} refused: {fault}"),
+        Err(Stop::Unprinted(error)) => Err(error),
     }
-    let mut words = [0; WORDS];
-    let size = to_words(&input[..count], &mut words);
-    tell_job(&rt, &words[..size])
 }

@@ -1,6 +1,7 @@
 -- Each item stands in the words as it is laid out, and is read where it stands.
-use Rattle.std.proofs.Common.{◌≡◌, ℕ, ◌+◌, ◌*◌, ◌/◌, ◌%◌, ◌<◌, ◌≤◌, Bool, true, false, cond, ◌||◌, eqb, ltb, List, [], ◌∷◌, ◌++◌, map, length, Ok, Err, refl, ap, ◌∙◌, subst, arith}
+use Rattle.std.proofs.Common.{◌≡◌, ℕ, ◌+◌, ◌*◌, ◌/◌, ◌%◌, ◌<◌, ◌≤◌, true, cond, ◌||◌, eqb, ltb, List, [], ◌∷◌, ◌++◌, map, length, Ok, Err, ap, ◌∙◌, subst, arith}
 use Rattle.std.proofs.lemmas.List.{length-map}
+use Rattle.std.proofs.lemmas.Bool.{or_parts}
 use Rattle.std.proofs.lemmas.Bool.Decides.{nat_tests}
 use Rattle.words.specs.declared.faults.SchemaFault.TheVariants.{Words, Unknown, Unjoined}
 use Rattle.words.specs.declared.faults.WordFault.TheVariants.{Limit}
@@ -44,10 +45,6 @@ module _ (kinds : ℕ) (ws : List ℕ) where
       pass room at v h x y = grind (arith, nat_tests)
 
 -- rules
-neither : (a b : Bool) → (a || b) ≡ false → (a ≡ false) × (b ≡ false)
-neither false b e = (refl, e)
-neither true b e = absurd (let z : ◌≡◌ {A = Bool} true false = e in let y : ◌≡◌ {A = ℕ} 0 1 = cc in omega arith)
-
 pub record RuleRead (kinds : ℕ) (ts : List Link) (ws : List ℕ) (at : ℕ) (r : Rule) : Type 0 where
   pub laid : Stands ws at (rule_words r) (at + rule_size r)
   pub good : GoodRule kinds ts r
@@ -69,8 +66,8 @@ module _ (kinds : ℕ) (ts : List Link) (ws : List ℕ) where
       let s = word_told tag.Rule ws at v (worded_ok (word tag.Rule ws at) v x.1) in
       let nl = path_length ts ws n f (at + 1) l.0 l.1 in
       let nr = path_length ts ws m f (at + 1 + n) q.0 q.1 in
-      let b0 = neither (eqb room 0) (ltb 64 n || ltb 64 m) y.0 in
-      let b1 = neither (ltb 64 n) (ltb 64 m) b0.1 in
+      let b0 = or_parts (eqb room 0) (ltb 64 n || ltb 64 m) y.0 in
+      let b1 = or_parts (ltb 64 n) (ltb 64 m) b0.1 in
       let n64 : n ≤ 64 = let t = b1.0 in grind (arith, nat_tests) in
       let m64 : m ≤ 64 = let t = b1.1 in grind (arith, nat_tests) in
       let meet : q.0.1 ≡ l.0.1 = let t = d.0 in grind (arith, nat_tests) in

@@ -9,7 +9,7 @@ use Rattle.words.specs.Tags.{tagged, number}
 use Rattle.words.specs.Items.{sizes, one_word}
 use Rattle.words.specs.Numbered.{numbered, Each}
 use Rattle.words.proofs.Inverse.{then_ok}
-use Rattle.words.proofs.Items.{items_length, items_full, more_one}
+use Rattle.words.proofs.Items.{items_length, items_full, more_one, sizes_one}
 use Rattle.words.proofs.Laid.{ok_same, joined_numbered, each_all, all_each, numbered_length, items_stand, items_each, items_read, end_told, end_read}
 use Rattle.words.proofs.Single.{word_told, word_read}
 use Rattle.words.proofs.Standing.{Stands, join, front, back, stood_stands, stands_stood, stands_other, whole, itself}
@@ -20,10 +20,6 @@ use Rattle.problems.proofs.Mapping.{kind_told, maps_length}
 use Rattle.problems.proofs.Laying.{link_stands, link_good, link_read, rule_told, rule_read, kind_stands, kind_read, map_told, map_read}
 use Rattle.problems.proofs.Problems.{ProblemRead, problem_told, problem_made}
 use Rattle.words.specs.declared.tags.Tag.TheVariants as tag
-
-sizes_one : {X : Type 0} (xs : List X) → sizes one_word xs ≡ length xs
-sizes_one [] = refl
-sizes_one (x ∷ xs) = let h = sizes_one xs in omega arith
 
 -- a schema
 module _ (side : ℕ) (ws : List ℕ) (at k : ℕ) (ls : List Link) where

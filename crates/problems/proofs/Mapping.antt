@@ -1,5 +1,6 @@
 -- Kind maps and link maps, as the code reads them.
 use Rattle.std.proofs.Common.{◌≡◌, ℕ, ◌+◌, ◌-◌, ◌/◌, ◌%◌, ◌<◌, ◌≤◌, true, cond, ◌&&◌, eqb, ltb, List, length, get_or, Ok, Err, sym, ap, ◌∙◌, arith}
+use Rattle.std.proofs.lemmas.Bool.{and_parts}
 use Rattle.std.proofs.lemmas.Bool.Decides.{nat_tests}
 use Rattle.words.specs.declared.faults.SchemaFault.TheVariants.{Unknown, Unjoined}
 use Rattle.words.specs.Words.{word, worded, then}
@@ -9,7 +10,7 @@ use Rattle.words.specs.Items.{behind, one_word}
 use Rattle.problems.specs.Problem.{Link, path, kind_of, kind_mapped, kind_maps, begins, stops, arriving, map_of, link_mapped, path_size}
 use Rattle.problems.specs.Seen.{reached, Mapped, kinds_got}
 use Rattle.words.proofs.Items.{items_at, items_full, more_one, places_one}
-use Rattle.problems.proofs.Paths.{path_length, reached_ok, both}
+use Rattle.problems.proofs.Paths.{path_length, reached_ok}
 use Rattle.words.specs.declared.tags.Tag.TheVariants as tag
 
 pub record KindRead (n kinds : ℕ) (ws : List ℕ) (left at k : ℕ) : Type 0 where
@@ -24,7 +25,7 @@ kind_told n kinds ws left at k e =
     let x = then_ok (worded (word tag.KindMap ws at)) (kind_of n kinds left at) k e in
     let v = x.0 in
     let z = if_ok (eqb (v / 256 + left) n && ltb (v % 256) kinds) (Ok (v % 256)) (Unknown at) k x.2 in
-    let b = both (eqb (v / 256 + left) n) (ltb (v % 256) kinds) z.0 in
+    let b = and_parts (eqb (v / 256 + left) n) (ltb (v % 256) kinds) z.0 in
     let q : v % 256 ≡ k = let r = z.1 in cc in
     let c : v % 256 < kinds = grind (arith, nat_tests) in
     record { fields = v; head = worded_ok (word tag.KindMap ws at) v x.1; numbered = grind (arith, nat_tests); is = q; known = omega arith }

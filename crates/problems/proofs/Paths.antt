@@ -1,5 +1,6 @@
 -- Links and paths.
-use Rattle.std.proofs.Common.{◌≡◌, ℕ, zero, suc, ◌+◌, ◌-◌, ◌*◌, ◌/◌, ◌%◌, ◌<◌, ◌≤◌, Bool, true, false, cond, ◌&&◌, eqb, ltb, List, [], ◌∷◌, length, get_or, Ok, Err, Result, sym, refl, ap, ◌∙◌, arith}
+use Rattle.std.proofs.Common.{◌≡◌, ℕ, zero, suc, ◌+◌, ◌-◌, ◌*◌, ◌/◌, ◌%◌, ◌<◌, ◌≤◌, cond, ◌&&◌, eqb, ltb, List, [], ◌∷◌, length, get_or, Ok, Err, Result, sym, refl, ap, ◌∙◌, arith}
+use Rattle.std.proofs.lemmas.Bool.{and_parts}
 use Rattle.std.proofs.lemmas.Bool.Decides.{nat_tests}
 use Rattle.words.specs.declared.faults.WordFault.TheVariants.{Limit}
 use Rattle.words.specs.declared.faults.SchemaFault.{SchemaFault}
@@ -17,10 +18,6 @@ pub got_known : {A E : Type 0} (r : Result (List A) E) (n : ℕ) → sized r ≡
 got_known (Ok xs) n e = (refl, cc)
 got_known (Err e) n p = absurd (err_ok p)
 
-pub both : (a b : Bool) → (a && b) ≡ true → (a ≡ true) × (b ≡ true)
-both true b e = (refl, e)
-both false b e = absurd (let z : ◌≡◌ {A = Bool} true false = sym e in let y : ◌≡◌ {A = ℕ} 0 1 = cc in omega arith)
-
 -- what an accepted link says
 pub record LinkRead (kinds : ℕ) (ws : List ℕ) (room at : ℕ) (l : Link) : Type 0 where
   pub roomy : 0 < room
@@ -35,7 +32,7 @@ link_told kinds ws room at l e =
     let v = x.0 in
     let y = else_ok (eqb room 0) (cond (ltb (v / 256) kinds && ltb (v % 256) kinds) (Ok (record { from = v / 256; to = v % 256 })) (Err (Unknown at))) (Words (Limit at)) l x.2 in
     let z = if_ok (ltb (v / 256) kinds && ltb (v % 256) kinds) (Ok (record { from = v / 256; to = v % 256 })) (Unknown at) l y.1 in
-    let b = both (ltb (v / 256) kinds) (ltb (v % 256) kinds) z.0 in
+    let b = and_parts (ltb (v / 256) kinds) (ltb (v % 256) kinds) z.0 in
     let h : l ≡ record { from = v / 256; to = v % 256 } = let q = z.1 in cc in
     let p : l.from ≡ v / 256 = ap (λ r. r.from) h in
     let t : l.to ≡ v % 256 = ap (λ r. r.to) h in

@@ -6,14 +6,15 @@ use Rattle.words.proofs.Inverse.{then_ok, worded_ok}
 use Rattle.words.specs.Items.{sizes, one_word}
 use Rattle.words.proofs.Laid.{ok_same}
 use Rattle.problems.specs.Problem.{Link, Problem, rules, rule_size, path_size, whole_schema, kind_maps, link_maps, behind_schemas, behind_rules, behind_kinds, behind_maps, read}
+use Rattle.problems.specs.Tokens.{rules_at, maps_at}
 
 pub record ProblemRead (ws : List ℕ) (p : Problem) : Type 0 where
   pub sourced : whole_schema 0 ws 0 ≡ Ok (p.source_kinds, p.source_links)
   pub targeted : whole_schema 1 ws (1 + length p.source_links) ≡ Ok (p.target_kinds, p.target_links)
-  pub ruled : rules p.target_kinds p.target_links ws (1 + length p.source_links + 1 + length p.target_links) ≡ Ok p.rules
-  pub kinded : kind_maps p.source_kinds p.target_kinds ws (1 + length p.source_links + 1 + length p.target_links + sizes rule_size p.rules) ≡ Ok p.kind_map
-  pub linked : link_maps p.source_links p.kind_map p.target_links ws (1 + length p.source_links + 1 + length p.target_links + sizes rule_size p.rules + sizes one_word p.kind_map) ≡ Ok p.link_map
-  pub closed : end ws (1 + length p.source_links + 1 + length p.target_links + sizes rule_size p.rules + sizes one_word p.kind_map + sizes path_size p.link_map) ≡ Ok (1 + length p.source_links + 1 + length p.target_links + sizes rule_size p.rules + sizes one_word p.kind_map + sizes path_size p.link_map)
+  pub ruled : rules p.target_kinds p.target_links ws (rules_at p) ≡ Ok p.rules
+  pub kinded : kind_maps p.source_kinds p.target_kinds ws (rules_at p + sizes rule_size p.rules) ≡ Ok p.kind_map
+  pub linked : link_maps p.source_links p.kind_map p.target_links ws (maps_at p) ≡ Ok p.link_map
+  pub closed : end ws (maps_at p + sizes path_size p.link_map) ≡ Ok (maps_at p + sizes path_size p.link_map)
 
 -- an end that was read tells its place
 end_closed : (ws : List ℕ) (at q : ℕ) → worded (end ws at) ≡ Ok q → end ws at ≡ Ok at
@@ -47,12 +48,10 @@ pub problem_made : (ws : List ℕ) (p : Problem) → ProblemRead ws p → read w
 problem_made ws p r =
     let s : ℕ × List Link = (p.source_kinds, p.source_links) in
     let t : ℕ × List Link = (p.target_kinds, p.target_links) in
-    let at = 1 + length p.source_links + 1 + length p.target_links in
-    let a2 = at + sizes rule_size p.rules in
-    let a3 = a2 + sizes one_word p.kind_map in
+    let a2 = rules_at p + sizes rule_size p.rules in
     ap (λ x. then x (λ s. then (whole_schema 1 ws (1 + length s.1)) (λ t. behind_schemas ws s t (1 + length s.1 + 1 + length t.1)))) r.sourced
     ∙ ap (λ x. then x (λ t. behind_schemas ws s t (1 + length p.source_links + 1 + length t.1))) r.targeted
-    ∙ ap (λ x. then x (behind_rules ws s t at)) r.ruled
+    ∙ ap (λ x. then x (behind_rules ws s t (rules_at p))) r.ruled
     ∙ ap (λ x. then x (behind_kinds ws s t p.rules a2)) r.kinded
-    ∙ ap (λ x. then x (λ lm. behind_maps ws s t p.rules p.kind_map lm (a3 + sizes path_size lm))) r.linked
+    ∙ ap (λ x. then x (λ lm. behind_maps ws s t p.rules p.kind_map lm (maps_at p + sizes path_size lm))) r.linked
     ∙ ap (λ x. then (worded x) (λ _. Ok (record { source_kinds = p.source_kinds; source_links = p.source_links; target_kinds = p.target_kinds; target_links = p.target_links; rules = p.rules; kind_map = p.kind_map; link_map = p.link_map }))) r.closed

@@ -1,5 +1,6 @@
 -- A schema that was read.
 use Rattle.std.proofs.Common.{◌≡◌, ℕ, ◌+◌, ◌*◌, ◌/◌, ◌%◌, ◌<◌, ◌≤◌, cond, ◌&&◌, eqb, ltb, leb, List, length, Ok, Err, Result, sym, refl, ap, ◌∙◌, arith}
+use Rattle.std.proofs.lemmas.Bool.{and_parts}
 use Rattle.std.proofs.lemmas.Bool.Decides.{nat_tests}
 use Rattle.words.specs.declared.faults.WordFault.TheVariants.{Wrong, Limit}
 use Rattle.words.specs.declared.faults.SchemaFault.{SchemaFault}
@@ -11,7 +12,6 @@ use Rattle.words.specs.Items.{sized, one_word}
 use Rattle.problems.specs.Problem.{Link, schema_of, schema, link, links, whole_schema}
 use Rattle.problems.specs.Seen.{Linked, seen}
 use Rattle.words.proofs.Items.{items_length}
-use Rattle.problems.proofs.Paths.{both}
 use Rattle.words.specs.declared.tags.Tag.TheVariants as tag
 
 pub record KindsRead (side : ℕ) (ws : List ℕ) (at k : ℕ) : Type 0 where
@@ -25,7 +25,7 @@ schema_told side ws at k e =
     let v = x.0 in
     let y = if_ok (eqb (v / 256) side) (cond (ltb 0 (v % 256) && leb (v % 256) 32) (Ok (v % 256)) (Err (Words (Limit at)))) (Words (Wrong at)) k x.2 in
     let z = if_ok (ltb 0 (v % 256) && leb (v % 256) 32) (Ok (v % 256)) (Words (Limit at)) k y.1 in
-    let b = both (ltb 0 (v % 256)) (leb (v % 256) 32) z.0 in
+    let b = and_parts (ltb 0 (v % 256)) (leb (v % 256) 32) z.0 in
     let q : v % 256 ≡ k = let r = z.1 in cc in
     let s : v / 256 ≡ side = grind (arith, nat_tests) in
     let t : 0 < v % 256 = grind (arith, nat_tests) in

@@ -106,7 +106,8 @@ fn read(words: &[u32]) -> Result<Found, SchemaFault>
 pub fn read_problem(words: &[u32]) -> Result<Found, SchemaFault>
     ensures told { told_of result ≡ outline_of (read_of words.now) }
     ensures laid { Laid words.now result }
-    ensures layouts { (ReadsLayouts) × (ReadsOnce) }
+    ensures layouts { ReadsLayouts }
+    ensures once { ReadsOnce }
 {
     read(words)
 }

@@ -1,7 +1,7 @@
 // The kind maps and the link maps of a problem file.
 ghost use Rattle.std.specs.Prelude.{◌≡◌, ◌-◌, ◌<◌, slice_index};
 ghost use Rattle.words.specs.Items.{one_word, behind, outlined, ended};
-ghost use Rattle.problems.specs.Problem.{kind_mapped, kind_maps, link_mapped, link_maps, path_size};
+ghost use Rattle.problems.specs.Problem.{path_size};
 ghost use Rattle.problems.specs.Seen.{Mapped};
 ghost use Rattle.problems.specs.Shown.{shown};
 
@@ -21,12 +21,12 @@ pub(crate) struct Sides<'a> {
 }
 
 impl Sides<'_> {
-    ghost use Rattle.problems.specs.Held.{words_in};
+    ghost use Rattle.problems.specs.Held.{kind_mapped_in, kind_maps_in};
 
     // The kind map of a source kind; tells the place behind it.
     fn kind_map(&self, kind: u32, at: usize) -> Result<usize, SchemaFault>
         requires { kind < self.now.source.schema.kinds }
-        ensures { result ≡ behind one_word at (kind_mapped self.now.source.schema.kinds self.now.target.schema.kinds (words_in self.now) (self.now.source.schema.kinds - kind) at) }
+        ensures { result ≡ behind one_word at (kind_mapped_in self.now (self.now.source.schema.kinds - kind) at) }
     {
         let v = word(self.source.words, at, Tag::KindMap)?;
         if v / 256 != kind || v % 256 >= self.target.schema.kinds {
@@ -37,7 +37,7 @@ impl Sides<'_> {
 
     // The kind maps; tells the place behind them.
     pub(crate) fn kind_maps(&self, start: usize) -> Result<usize, SchemaFault>
-        ensures { result ≡ ended one_word start (kind_maps self.now.source.schema.kinds self.now.target.schema.kinds (words_in self.now) start) }
+        ensures { result ≡ ended one_word start (kind_maps_in self.now start) }
     {
         let mut at = start;
         for kind in 0..self.source.schema.kinds {
@@ -56,7 +56,7 @@ pub(crate) struct Maps<'a> {
 }
 
 impl Maps<'_> {
-    ghost use Rattle.problems.specs.Held.{words_in, links_in, kinds_in};
+    ghost use Rattle.problems.specs.Held.{kinds_in, link_mapped_in, link_maps_in};
 
     // The target kind of a source kind.
     fn target_of(&self, kind: u32) -> u32
@@ -69,7 +69,7 @@ impl Maps<'_> {
     // The link map of a source link; tells the place behind it.
     fn link_map(&self, link: usize, at: usize) -> Result<usize, SchemaFault>
         requires { link < self.now.sides.source.schema.links }
-        ensures { result ≡ behind path_size at (link_mapped (links_in self.now.sides.source) (kinds_in self.now) (links_in self.now.sides.target) (words_in self.now.sides) (self.now.sides.source.schema.links - link) at) }
+        ensures { result ≡ behind path_size at (link_mapped_in self.now (self.now.sides.source.schema.links - link) at) }
     {
         let v = word(self.sides.source.words, at, Tag::LinkMap)?;
         let n = v % 256;
@@ -95,7 +95,7 @@ impl Maps<'_> {
         &self,
         start: usize,
     ) -> Result<(Bounded<usize, LINKS>, usize), SchemaFault>
-        ensures { shown result ≡ outlined path_size start (link_maps (links_in self.now.sides.source) (kinds_in self.now) (links_in self.now.sides.target) (words_in self.now.sides) start) }
+        ensures { shown result ≡ outlined path_size start (link_maps_in self.now start) }
     {
         let mut at = start;
         let mut places = Bounded::new(0);

@@ -1,8 +1,8 @@
 // The rules of a problem file.
 ghost use Rattle.std.specs.Prelude.{◌≡◌};
 ghost use Rattle.words.specs.Items.{behind, outlined};
-ghost use Rattle.problems.specs.Problem.{rule as rule_of, rule_size, rules as rules_of};
-ghost use Rattle.problems.specs.Held.{links_in};
+ghost use Rattle.problems.specs.Problem.{rule_size};
+ghost use Rattle.problems.specs.Held.{rule_in, rules_in};
 ghost use Rattle.problems.specs.Shown.{shown};
 
 use crate::schemas::Links;
@@ -15,7 +15,7 @@ use words::tags::Tag;
 impl Links<'_> {
     // A rule and its two paths, where there is room for one; tells the place behind them.
     fn rule(&self, room: usize, at: usize) -> Result<usize, SchemaFault>
-        ensures { result ≡ behind rule_size at (rule_of self.now.schema.kinds (links_in self.now) self.now.words.now room at) }
+        ensures { result ≡ behind rule_size at (rule_in self.now room at) }
     {
         let v = word(self.words, at, Tag::Rule)?;
         let left = v / 256 % 256;
@@ -37,7 +37,7 @@ impl Links<'_> {
 
     // Where the rules stand, and the place behind the last.
     pub(crate) fn rules(&self, start: usize) -> Result<(Bounded<usize, RULES>, usize), SchemaFault>
-        ensures { shown result ≡ outlined rule_size start (rules_of self.now.schema.kinds (links_in self.now) self.now.words.now start) }
+        ensures { shown result ≡ outlined rule_size start (rules_in self.now start) }
     {
         let mut at = start;
         let mut places = Bounded::new(0);

@@ -41,6 +41,7 @@ fn link(words: &[u32], kinds: u32, room: usize, at: usize) -> Result<usize, Sche
 fn count_links(words: &[u32], kinds: u32, start: usize) -> Result<usize, SchemaFault>
     ensures { result ≡ sized (links_of kinds words.now start) }
 {
+    // A loop, since a chain that counts cannot refuse a link.
     let mut at = start;
     while starts(words, at, Tag::Link) {
         at = link(words, kinds, LINKS - (at - start), at)?;

@@ -1,13 +1,14 @@
 -- A register file as a whole, and as the code reads it.
-use Rattle.std.proofs.Common.{◌≡◌, ℕ, suc, ◌+◌, List, [], ◌∷◌, length, Ok, Err, Result, sym, refl, ap, ◌∙◌, arith}
+use Rattle.std.proofs.Common.{◌≡◌, ℕ, suc, ◌+◌, ◌-◌, ◌<◌, Bool, true, List, [], ◌∷◌, length, zero-add, Ok, Err, Result, sym, refl, ap, ◌∙◌, arith}
+use Rattle.std.proofs.Math.Nat.{sub-zero}
 use Rattle.std.proofs.lemmas.Bool.Decides.{nat_tests}
 use Rattle.words.specs.declared.faults.SchemaFault.{SchemaFault}
 use Rattle.words.specs.Words.{worded, then, starts, end}
 use Rattle.words.specs.declared.tags.Tag.TheVariants as tag
-use Rattle.words.specs.Items.{items, sizes, outlined, ended, places, prepended}
+use Rattle.words.specs.Items.{items, sizes, outlined, ended, places, prepended, behind}
 use Rattle.register_files.specs.Register.{Row, File, link, span, counts_of, links_of, landings_of, behind_landings, behind_links, behind_counts, read}
 use Rattle.register_files.specs.Outline.{Counted, counts_got, outline_of}
-use Rattle.words.proofs.Items.{prepended_none}
+use Rattle.words.proofs.Items.{prepended_none, ended_turn}
 use Rattle.words.proofs.Inverse.{then_ok, worded_ok, err_ok}
 use Rattle.register_files.proofs.Parts.{known_read, known_length}
 
@@ -41,7 +42,7 @@ read_made ws f r =
     ∙ ap (λ x. then x (behind_landings ws f.counts f.links)) r.landed
     ∙ ap (λ x. then (worded x) (λ _. Ok (record { counts = f.counts; links = f.links; landings = f.landings }))) r.closed
 
-places_length : (ls : List Row) (at : ℕ) → length (places span at ls) ≡ length ls
+pub places_length : (ls : List Row) (at : ℕ) → length (places span at ls) ≡ length ls
 places_length [] at = refl
 places_length (l ∷ ls) at = ap suc (places_length ls (at + span l))
 
@@ -99,8 +100,14 @@ module _ (ws : List ℕ) where
       ∙ sym (ap (λ r. outline_of (then (worded r) (λ _. Ok (record { counts = counts_got ws; links = x.0; landings = (ended_ok next (landings_of (counts_got ws) ws next) last b).0 })))) d)
       ∙ ap outline_of (past_landings kinds next last ps k e b)
 
-pub links_start : (ws : List ℕ) (kinds : ℕ) → Counted ws kinds
-    → prepended [] (outlined span (1 + kinds) (items span (λ room p. starts tag.RegisterLink ws p) (link (counts_got ws) ws) 64 (1 + kinds))) ≡ outlined span (1 + kinds) (links_of (counts_got ws) ws)
-links_start ws kinds k =
-    prepended_none (outlined span (1 + kinds) (items span (λ room p. starts tag.RegisterLink ws p) (link (counts_got ws) ws) 64 (1 + kinds)))
+-- there is one place less
+pub room_turn : {X : Type 0} (size : X → ℕ) (more : ℕ → ℕ → Bool) (f : ℕ → ℕ → Result X SchemaFault) (n at next : ℕ) → more n at ≡ true → 0 < n → behind size at (f n at) ≡ Ok next
+    → ended size next (items size more f (n - 1) next) ≡ ended size at (items size more f n at)
+room_turn size more f n at next s h b = simp (sub-zero, zero-add) at (ended_turn size more f n 0 at next (simp sub-zero s) h (simp sub-zero b))
+
+pub links_start : (ws : List ℕ) (kinds : ℕ) (ps : List ℕ) → Counted ws kinds → ps ≡ []
+    → prepended ps (outlined span (1 + kinds) (items span (λ room p. starts tag.RegisterLink ws p) (link (counts_got ws) ws) (64 - length ps) (1 + kinds))) ≡ outlined span (1 + kinds) (links_of (counts_got ws) ws)
+links_start ws kinds ps k e =
+    ap (λ qs. prepended qs (outlined span (1 + kinds) (items span (λ room p. starts tag.RegisterLink ws p) (link (counts_got ws) ws) (64 - length qs) (1 + kinds)))) e
+    ∙ prepended_none (outlined span (1 + kinds) (items span (λ room p. starts tag.RegisterLink ws p) (link (counts_got ws) ws) 64 (1 + kinds)))
     ∙ ap (λ n. outlined span (1 + kinds) (items span (λ room p. starts tag.RegisterLink ws p) (link (counts_got ws) ws) 64 (1 + n))) (sym (known_length ws kinds k))

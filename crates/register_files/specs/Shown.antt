@@ -1,13 +1,14 @@
 -- The code's outline of links, as lists.
-use Rattle.std.specs.Prelude.{ℕ, List, take, Ok, Err, Result}
+use Rattle.std.specs.Prelude.{ℕ, List, length, Ok, Err, Result}
+use Rattle.bounded.specs.Listed.{listed}
 use Rattle.words.specs.declared.faults.SchemaFault.{SchemaFault}
 use Rattle.register_files.specs.declared.LinkPlaces.{LinkPlaces}
 use Rattle.register_files.specs.declared.Outline.{Outline}
 
 abbrev pub shown : Result LinkPlaces SchemaFault → Result (List ℕ × ℕ) SchemaFault
-shown (Ok l) = Ok (take l.count l.places, l.next)
+shown (Ok l) = Ok (listed l.places, l.next)
 shown (Err e) = Err e
 
 abbrev pub told : Result Outline SchemaFault → Result (ℕ × ℕ × List ℕ) SchemaFault
-told (Ok o) = Ok (o.kinds, o.links, take o.links o.places)
+told (Ok o) = Ok (o.kinds, length (listed o.links), listed o.links)
 told (Err e) = Err e

@@ -9,6 +9,7 @@ ghost use Rattle.register_files.specs.Outline.{Counted, counts_got, outline_of};
 ghost use Rattle.register_files.specs.Layout.{ReadsLayouts};
 ghost use Rattle.register_files.specs.Shown.{shown, told as told_of};
 
+use bounded::Bounded;
 use words::faults::{SchemaFault, WordFault};
 use words::reading::{end, fields_at, starts, word};
 use words::tags::Tag;
@@ -16,7 +17,7 @@ use words::tags::Tag;
 // How many kinds, links and landings words a register file may have.
 const KINDS: u32 = 32;
 
-const LINKS: usize = 64;
+pub const LINKS: usize = 64;
 
 const LANDINGS: usize = 32;
 
@@ -36,12 +37,11 @@ fn records(words: &[u32], at: usize, n: u32, size: u32) -> Result<usize, SchemaF
     requires { at ≤ length words.now }
     ensures { result ≡ ended one_word at (run (counted_of size words.now) n at) }
 {
-    let mut next = at;
-    for _k in 0..n {
-        let _ = counted(words, next, size)?;
-        next += 1;
+    let last = at + n as usize;
+    for place in at..last {
+        let _ = counted(words, place, size)?;
     }
-    Ok(next)
+    Ok(last)
 }
 
 // A run of counts behind the first word.
@@ -49,12 +49,11 @@ fn counts(words: &[u32], n: u32) -> Result<usize, SchemaFault>
     requires { 0 < length words.now }
     ensures { result ≡ ended one_word 1 (run (count_of words.now) n 1) }
 {
-    let mut next = 1;
-    for _k in 0..n {
-        let _ = word(words, next, Tag::Count)?;
-        next += 1;
+    let last = 1 + n as usize;
+    for place in 1..last {
+        let _ = word(words, place, Tag::Count)?;
     }
-    Ok(next)
+    Ok(last)
 }
 
 // The kinds, with their counts behind them.
@@ -63,124 +62,118 @@ fn kinds(words: &[u32]) -> Result<u32, SchemaFault>
 {
     let n = word(words, 0, Tag::Register)?;
     if n > KINDS {
-        return Err(SchemaFault::Words(WordFault::Limit(0)));
+        return Err(WordFault::Limit(0).into());
     }
     let _ = counts(words, n)?;
     Ok(n)
 }
 
-// The count of a kind.
-fn count_at(words: &[u32], kinds: u32, kind: u32) -> u32
-    requires { (Counted words.now kinds) × (kind < kinds) }
-    ensures { result ≡ slice_index (counts_got words.now) kind }
-{
-    fields_at(words, 1 + kind as usize)
-}
-
-// A link and its records, where there is room for one; tells the place behind them.
-fn link(words: &[u32], kinds: u32, room: usize, at: usize) -> Result<usize, SchemaFault>
-    requires { Counted words.now kinds }
-    ensures { result ≡ behind span at (link_of (counts_got words.now) words.now room at) }
-{
-    let v = word(words, at, Tag::RegisterLink)?;
-    if room == 0 {
-        return Err(SchemaFault::Words(WordFault::Limit(at)));
-    }
-    if v / 256 >= kinds || v % 256 >= kinds {
-        return Err(SchemaFault::Unknown(at));
-    }
-    let n = count_at(words, kinds, v / 256);
-    let size = count_at(words, kinds, v % 256);
-    records(words, at + 1, n, size)
-}
-
-// The landings of a source kind, where there is room for one; tells the place behind them.
-fn landing(words: &[u32], kinds: u32, room: usize, at: usize) -> Result<usize, SchemaFault>
-    requires { (Counted words.now kinds) × (room ≤ 32) }
-    ensures { result ≡ behind span at (landing_of (counts_got words.now) words.now room at) }
-{
-    let v = word(words, at, Tag::Landings)?;
-    if room == 0 {
-        return Err(SchemaFault::Words(WordFault::Limit(at)));
-    }
-    if (v / 256 % 256) as usize + room != LANDINGS || v % 256 >= kinds {
-        return Err(SchemaFault::Unknown(at));
-    }
-    let size = count_at(words, kinds, v % 256);
-    records(words, at + 1, v / 65536, size)
+// Words whose head was read: the kinds and their counts.
+#[derive(Clone, Copy)]
+struct Headed<'a> {
+    words: &'a [u32],
+    kinds: u32,
+    ghost counted: { Counted words.now kinds },
 }
 
 // Where the links stand, and the place behind the last.
 #[derive(Clone, Copy)]
 struct LinkPlaces {
-    count: usize,
-    places: [usize; LINKS],
+    places: Bounded<usize, LINKS>,
     next: usize,
 }
 
-fn links(words: &[u32], kinds: u32) -> Result<LinkPlaces, SchemaFault>
-    requires { Counted words.now kinds }
-    ensures few { IfOk result (λ l. l.count ≤ 64) }
-    ensures told { shown result ≡ outlined_of span (1 + kinds) (links_of (counts_got words.now) words.now) }
-{
-    let mut at = 1 + kinds as usize;
-    let mut count = 0;
-    let mut places = [0; LINKS];
-    while starts(words, at, Tag::RegisterLink) {
-        let next = link(words, kinds, LINKS - count, at)?;
-        places[count] = at;
-        count += 1;
-        at = next;
+impl<'a> Headed<'a> {
+    // The count of a kind.
+    fn count(&self, kind: u32) -> u32
+        requires { kind < self.now.kinds }
+        ensures { result ≡ slice_index (counts_got self.now.words.now) kind }
+    {
+        fields_at(self.words, 1 + kind as usize)
     }
-    Ok(LinkPlaces {
-        count,
-        places,
-        next: at,
-    })
-}
 
-fn landings(words: &[u32], kinds: u32, start: usize) -> Result<usize, SchemaFault>
-    requires { Counted words.now kinds }
-    ensures { result ≡ ended span start (landings_of (counts_got words.now) words.now start) }
-{
-    let mut at = start;
-    let mut count = 0;
-    while starts(words, at, Tag::Landings) {
-        at = landing(words, kinds, LANDINGS - count, at)?;
-        count += 1;
+    // A link and its records, where there is room for one; tells the place behind them.
+    fn link(&self, room: usize, at: usize) -> Result<usize, SchemaFault>
+        ensures { result ≡ behind span at (link_of (counts_got self.now.words.now) self.now.words.now room at) }
+    {
+        let v = word(self.words, at, Tag::RegisterLink)?;
+        if room == 0 {
+            return Err(WordFault::Limit(at).into());
+        }
+        if v / 256 >= self.kinds || v % 256 >= self.kinds {
+            return Err(SchemaFault::Unknown(at));
+        }
+        let n = self.count(v / 256);
+        let size = self.count(v % 256);
+        records(self.words, at + 1, n, size)
     }
-    Ok(at)
+
+    // The landings of a source kind, where there is room for one; tells the place behind them.
+    fn landing(&self, room: usize, at: usize) -> Result<usize, SchemaFault>
+        requires { room ≤ 32 }
+        ensures { result ≡ behind span at (landing_of (counts_got self.now.words.now) self.now.words.now room at) }
+    {
+        let v = word(self.words, at, Tag::Landings)?;
+        if room == 0 {
+            return Err(WordFault::Limit(at).into());
+        }
+        if (v / 256 % 256) as usize + room != LANDINGS || v % 256 >= self.kinds {
+            return Err(SchemaFault::Unknown(at));
+        }
+        let size = self.count(v % 256);
+        records(self.words, at + 1, v / 65536, size)
+    }
+
+    fn links(&self) -> Result<LinkPlaces, SchemaFault>
+        ensures { shown result ≡ outlined_of span (1 + self.now.kinds) (links_of (counts_got self.now.words.now) self.now.words.now) }
+    {
+        let mut at = 1 + self.kinds as usize;
+        let mut places = Bounded::new(0);
+        while starts(self.words, at, Tag::RegisterLink) {
+            let next = self.link(LINKS - places.len(), at)?;
+            places.push(at);
+            at = next;
+        }
+        Ok(LinkPlaces { places, next: at })
+    }
+
+    fn landings(&self, start: usize) -> Result<usize, SchemaFault>
+        ensures { result ≡ ended span start (landings_of (counts_got self.now.words.now) self.now.words.now start) }
+    {
+        let mut at = start;
+        let mut room = LANDINGS;
+        while starts(self.words, at, Tag::Landings) {
+            at = self.landing(room, at)?;
+            room -= 1;
+        }
+        Ok(at)
+    }
 }
 
 // A register file that was read through: its kinds, and where each of its links stands.
 #[derive(Clone, Copy)]
 pub struct Outline {
     pub kinds: u32,
-    pub links: usize,
-    pub places: [usize; LINKS],
+    pub links: Bounded<usize, LINKS>,
 }
 
 // Reads a register file through, or tells the first fault.
 fn outlined(words: &[u32]) -> Result<Outline, SchemaFault>
-    ensures few { IfOk result (λ o. o.links ≤ 64) }
-    ensures told { told_of result ≡ outline_of (read words.now) }
+    ensures { told_of result ≡ outline_of (read words.now) }
 {
     let kinds = kinds(words)?;
-    let links = links(words, kinds)?;
-    let last = landings(words, kinds, links.next)?;
+    let read = Headed { words, kinds };
+    let links = read.links()?;
+    let last = read.landings(links.next)?;
     let _ = end(words, last)?;
-    let count = links.count;
-    let places = links.places;
     Ok(Outline {
         kinds,
-        links: count,
-        places,
+        links: links.places,
     })
 }
 
 // Reads a register file. It accepts exactly the words that are the layout of a well-formed file.
 pub fn read_register(words: &[u32]) -> Result<Outline, SchemaFault>
-    ensures few { IfOk result (λ o. o.links ≤ 64) }
     ensures told { told_of result ≡ outline_of (read words.now) }
     ensures laid { ReadsLayouts }
 {

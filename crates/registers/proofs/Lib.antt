@@ -1,5 +1,4 @@
 pub mod Answering
-pub mod Wheels
 pub mod WrittenLists
 pub mod Asked
 pub mod WrittenSplices

@@ -4,7 +4,7 @@ use Rattle.std.specs.List.{AllByRecursion}
 use Rattle.std.proofs.lemmas.List.{get_or_append_left, get_or_push, ext_get_or}
 use Rattle.std.proofs.ByRecursion.{All-push}
 use Rattle.std.proofs.lemmas.Bool.{or_from, or_left, or_right, or_parts, cases_lt}
-use Rattle.registers.specs.Writing.{upto, some_below, or_here, lowest, astray}
+use Rattle.registers.specs.Writing.{upto, some_below, or_here, lowest}
 
 pub some_none : {X : Type 0} {x : X} → Some x ≡ None → ⊥
 some_none e = let z : ◌≡◌ {A = ℕ} 0 1 = cc in omega arith
@@ -22,10 +22,6 @@ cond_none true n e = absurd (some_none e)
 cond_none false n e = refl
 
 module _ (p : ℕ → Bool) where
-  pub none_more : (n : ℕ) → some_below p n ≡ false → p n ≡ false → some_below p (n + 1) ≡ false
-  unfolding some_below
-  none_more n h k = rw add-one (or_from _ _ h k)
-
   pub some_found : (k n : ℕ) → k < n → p k ≡ true → true ≡ some_below p n
   unfolding some_below
   some_found k zero h e = absurd (omega arith)
@@ -91,6 +87,3 @@ module _ {X : Type 0} (f : ℕ → X) where
   upto_same xs d h =
       let q = upto_length (length xs) in
       ext_get_or d (upto f (length xs)) xs q (λ i l. let k : i < length xs = omega arith in upto_at (length xs) i d k ∙ h i k)
-
-pub astray_at : (n n' : ℕ) (o o' : Option ℕ) (b : Bool) → b ≡ astray n o → n ≡ n' → o ≡ o' → astray n' o' ≡ b
-astray_at n n' o o' b e p q = cc

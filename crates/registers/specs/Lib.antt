@@ -6,5 +6,6 @@ pub mod Blanks
 pub mod Writing
 pub mod Splices
 pub mod Parts
+pub mod Writability
 pub mod WriteFaults
 pub mod Laws

@@ -1,13 +1,11 @@
 // A computed register: one kind, and steps around it.
-ghost use Rattle.std.specs.Prelude.{◌≡◌, ℕ, ◌<◌, ◌≤◌, length, get_or, take};
+use bounded::Bounded;
 
 pub mod calls;
 
-// The first `used` steps are links from kind 0 to itself.
+// The steps are links from kind 0 to itself.
 #[derive(Clone, Copy)]
 pub struct Wheel {
     size: u16,
-    used: usize,
-    steps: [u16; 8],
-    ghost eight: { used ≤ 8 },
+    steps: Bounded<u16, 8>,
 }

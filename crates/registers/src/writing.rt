@@ -5,7 +5,7 @@ ghost use Rattle.registers.specs.WriteFaults.{write_fault};
 
 use crate::register::Register;
 use crate::writing::checks::{is_large, lowest_broken, size};
-use crate::writing::parts::put_file;
+use crate::writing::parts::Tested;
 use words::faults::{Fault, Refusal};
 
 pub mod checks;
@@ -48,5 +48,5 @@ pub fn write<R: Register>(register: &R, out: &mut [u32]) -> Result<usize, WriteF
     if size(register) > out.len() {
         return Err(WriteFault::Memory);
     }
-    Ok(put_file(register, out))
+    Ok(Tested { register }.put_file(out))
 }

@@ -17,6 +17,7 @@ pub fn to_words(bytes: &[u8], words: &mut [u32]) -> usize
     ensures words { words.new ≡ words_of bytes.now result ++ drop result words.old }
 {
     let n = (bytes.len() / 4).min(words.len());
+    // By index: of what is written through `iter_mut`, a proof knows only the length.
     for i in 0..n {
         words[i] = word_at(bytes, i);
     }
@@ -29,10 +30,11 @@ pub fn to_bytes(words: &[u32], bytes: &mut [u8]) -> usize
     ensures bytes { bytes.new ≡ bytes_of (take (result / 4) words.now) ++ drop result bytes.old }
     ensures back { words_of bytes.new (result / 4) ≡ take (result / 4) words.now }
 {
-    let n = words.len().min(bytes.len() / 4);
-    for i in 0..n {
+    let front = &words[..words.len().min(bytes.len() / 4)];
+    // By index: of what is written through `chunks_exact_mut`, a proof knows only the length.
+    for (i, word) in front.iter().enumerate() {
         let at = 4 * i;
-        bytes[at..at + 4].copy_from_slice(&words[i].to_be_bytes());
+        bytes[at..at + 4].copy_from_slice(&word.to_be_bytes());
     }
-    4 * n
+    4 * front.len()
 }

@@ -8,7 +8,7 @@ use crate::bytes::{to_bytes, to_words};
 use registers::blank::Blank;
 use registers::held::Held;
 use registers::writing::write;
-use words::faults::{Fault, Refusal};
+use words::faults::{Fault, WordFault};
 
 // The longest input and output, and as words.
 pub const BYTES: usize = 32768;
@@ -27,10 +27,7 @@ fn unblanked(
     ensures files { IfOk result (λ n. Rewritten input.now (take n kept.new)) }
 {
     if input.len() > BYTES {
-        return Err(Fault {
-            refusal: Refusal::Limit,
-            place: WORDS,
-        });
+        return Err(WordFault::Limit(WORDS).into());
     }
     let count = to_words(input, words);
     let mut held = Held::new();

@@ -16,9 +16,3 @@ pub invariant_of-sides-2 : goal.invariant_of-sides-2
 invariant_of-sides-2 c =
     let t = schema_seen 1 c.args.words.now _ c.in_ok-target.target (sym c.in_ok-target.ensures) in
     record { read = t.linked; few = t.few_links }
-
-pub overflow_add-target : goal.overflow_add-target
-overflow_add-target c =
-    let s = schema_seen 0 c.args.words.now 0 c.in_ok-source.source (sym c.in_ok-source.ensures) in
-    let t = schema_seen 1 c.args.words.now _ c.in_ok-target.target (sym c.in_ok-target.ensures) in
-    search rules

@@ -7,5 +7,6 @@ returns c =
     record {
       told = c.read.ensures;
       laid = answer_laid c.args.words.now c.read.result c.read.ensures;
-      layouts = (reads_layouts, reads_once);
+      layouts = reads_layouts;
+      once = reads_once;
     }

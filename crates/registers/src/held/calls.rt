@@ -6,7 +6,8 @@ ghost use Rattle.registers.specs.Holding.{held_file, kept};
 
 use crate::held::Held;
 use crate::register::Register;
-use register_files::read_register;
+use bounded::Bounded;
+use register_files::{Outline, read_register};
 use words::faults::SchemaFault;
 use words::reading::fields_at;
 
@@ -17,9 +18,10 @@ impl<'a> Held<'a> {
     {
         Held {
             words: &[],
-            kinds: 0,
-            links: 0,
-            places: [0; 64],
+            outline: Outline {
+                kinds: 0,
+                links: Bounded::new(0),
+            },
         }
     }
 
@@ -28,14 +30,8 @@ impl<'a> Held<'a> {
         ensures answer { result ≡ giving tt (read_of words.now) }
         ensures after { held_file self.new ≡ kept (held_file self.old) (read_of words.now) }
     {
-        let found = read_register(words)?;
-        let places = found.places;
-        *self = Held {
-            words,
-            kinds: found.kinds,
-            links: found.links,
-            places,
-        };
+        let outline = read_register(words)?;
+        *self = Held { words, outline };
         Ok(())
     }
 }
@@ -46,25 +42,21 @@ impl<'a> Register for Held<'a> {
     ghost lawful = { λ h. h.lawful };
 
     fn kinds(&self) -> u32 {
-        self.kinds
+        self.outline.kinds
     }
 
     fn links(&self) -> u32 {
-        self.links as u32
+        self.outline.links.len() as u32
     }
 
     fn ends(&self, link: u32) -> Option<(u32, u32)> {
-        if (link as usize) < self.links {
-            let place = self.places[link as usize];
-            let fields = fields_at(self.words, place);
-            Some((fields / 256, fields % 256))
-        } else {
-            None
-        }
+        let place = self.outline.links.get(link as usize)?;
+        let fields = fields_at(self.words, place);
+        Some((fields / 256, fields % 256))
     }
 
     fn count(&self, kind: u32) -> u32 {
-        if kind < self.kinds {
+        if kind < self.outline.kinds {
             fields_at(self.words, 1 + kind as usize)
         } else {
             0
@@ -72,11 +64,11 @@ impl<'a> Register for Held<'a> {
     }
 
     fn follow(&self, link: u32, record: u32) -> Option<u32> {
+        let place = self.outline.links.get(link as usize)?;
         let (from, _) = self.ends(link)?;
         if record >= self.count(from) {
             return None;
         }
-        let place = self.places[link as usize];
         Some(fields_at(self.words, place + 1 + record as usize))
     }
 }

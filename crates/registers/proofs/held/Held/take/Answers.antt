@@ -6,10 +6,10 @@ use Rattle.registers.proofs.held.Held.take.Goals as goal
 
 pub invariant_of-self : goal.invariant_of-self
 invariant_of-self c =
-    let f = file_made _ _ _ _ (sym c.in_ok-found.ensures.told) in
-    record { few = c.in_ok-found.ensures.few; kinded = f.1; linked = f.2; placed = f.3; lawful = held_lawful _ _ _ _ f.1 f.2 f.3 }
+    let f = file_made _ _ _ _ (sym c.in_ok-outline.ensures.told) in
+    record { kinded = f.1; placed = f.2; lawful = held_lawful _ _ _ f.1 f.2 }
 
 pub returns : goal.returns
 returns c =
-    let f = file_made _ _ _ _ (sym c.in_ok-found.ensures.told) in
+    let f = file_made _ _ _ _ (sym c.in_ok-outline.ensures.told) in
     record { answer = sym (ap (giving tt) f.0); after = sym (ap (kept (held_file c.args.self.now)) f.0) }

@@ -1,5 +1,6 @@
-use Rattle.std.proofs.Common.{◌≡◌, length, take}
+use Rattle.std.proofs.Common.{◌≡◌, take}
+use Rattle.bounded.specs.Listed.{listed}
 use Rattle.registers.proofs.wheel.Wheel.new.Given as goal
 
-abbrev pub invariant-loop-i : goal.invariant-loop-i
-invariant-loop-i l = (length l.list ≡ 8) × (take l.i l.list ≡ take l.i l.steps)
+abbrev pub invariant-loop-step : goal.invariant-loop-step
+invariant-loop-step l = listed l.list ≡ take l.step-index l.first

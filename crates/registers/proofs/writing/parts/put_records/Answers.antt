@@ -13,4 +13,4 @@ loop-r-preserved g c =
 pub put-requires : goal.put-requires
 put-requires g c =
     let e : c.unwrap_or-led.result ≡ lead (g.R.Register.meaning c.args.register.now) c.args.link c.loop-r.r = c.unwrap_or-led.ensures ∙ ap (λ o. unwrap_or o 0) c.follow.ensures in
-    (omega arith, omega (arith, c.requires.0 c.loop-r.r (omega arith)))
+    (omega arith, omega (arith, c.requires.fit c.loop-r.r (omega arith)))

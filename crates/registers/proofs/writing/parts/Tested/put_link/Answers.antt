@@ -1,24 +1,27 @@
 use Rattle.std.proofs.Common.{arith}
 use Rattle.registers.proofs.WrittenParts.{row_length, link_put}
 use Rattle.registers.proofs.WrittenFiles.{ends_fit, leads_fit}
-use Rattle.registers.proofs.writing.parts.put_link.Goals as goal
+use Rattle.registers.proofs.writing.parts.Tested.put_link.Goals as goal
 
 pub put-requires : goal.put-requires
 put-requires g c =
-    let m = g.R.Register.meaning c.args.register.now in
+    let m = g.R.Register.meaning c.args.self.now.register.now in
     let n = row_length m c.args.link c.in-Some.from c.in-Some.to c.in-Some.ensures in
-    let s = ends_fit m c.requires.0 c.args.link c.in-Some.from c.in-Some.to c.requires.1.0 c.in-Some.ensures in
+    let s = ends_fit m c.args.self.now.writable c.args.link c.in-Some.from c.in-Some.to c.requires.known c.in-Some.ensures in
     (omega arith, omega (arith, s.0, s.1))
 
 pub put_records-requires : goal.put_records-requires
 put_records-requires g c =
-    let m = g.R.Register.meaning c.args.register.now in
+    let m = g.R.Register.meaning c.args.self.now.register.now in
     let n = row_length m c.args.link c.in-Some.from c.in-Some.to c.in-Some.ensures in
-    (λ r h. leads_fit m c.requires.0 c.args.link c.in-Some.from c.in-Some.to c.requires.1.0 c.in-Some.ensures r (omega arith), omega arith)
+    record {
+      fit = λ r h. leads_fit m c.args.self.now.writable c.args.link c.in-Some.from c.in-Some.to c.requires.known c.in-Some.ensures r (omega arith);
+      room = omega arith;
+    }
 
 pub returns : goal.returns
 returns g c =
-    let m = g.R.Register.meaning c.args.register.now in
+    let m = g.R.Register.meaning c.args.self.now.register.now in
     let n = row_length m c.args.link c.in-Some.from c.in-Some.to c.in-Some.ensures in
     record {
       next = omega arith;

@@ -1,6 +1,6 @@
 use Rattle.std.proofs.Common.{arith}
 use Rattle.registers.proofs.WrittenParts.{counts_none, counts_more}
-use Rattle.registers.proofs.writing.parts.put_counts.Goals as goal
+use Rattle.registers.proofs.writing.parts.Tested.put_counts.Goals as goal
 
 pub loop-kind-init : goal.loop-kind-init
 loop-kind-init g c = counts_none _ _
@@ -9,4 +9,4 @@ pub loop-kind-preserved : goal.loop-kind-preserved
 loop-kind-preserved g c = counts_more _ c.loop-kind.kind _ _ _ _ (omega arith) c.count.ensures c.loop-kind.invariant c.put.ensures
 
 pub put-requires : goal.put-requires
-put-requires g c = (omega arith, omega (arith, c.requires.0.small c.loop-kind.kind (omega arith)))
+put-requires g c = (omega arith, omega (arith, c.args.self.now.writable.small c.loop-kind.kind (omega arith)))

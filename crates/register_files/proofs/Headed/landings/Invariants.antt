@@ -4,13 +4,15 @@ use Rattle.words.specs.Words.{starts}
 use Rattle.words.specs.Items.{items, ended}
 use Rattle.register_files.specs.Register.{landing, span, landings_of}
 use Rattle.register_files.specs.Outline.{counts_got}
-use Rattle.register_files.proofs.landings.Given as goal
+use Rattle.register_files.proofs.Headed.landings.Given as goal
 
 abbrev pub invariant-loop-at : goal.invariant-loop-at
 invariant-loop-at l =
-    (l.count ≤ 32)
-    × (ended span l.at (items span (λ room p. starts tag.Landings l.words p) (landing (counts_got l.words) l.words) (32 - l.count) l.at)
-    ≡ ended span l.start (landings_of (counts_got l.words) l.words l.start))
+    let ws = l.self.words.now in
+    record {
+      few : l.room ≤ 32;
+      told : ended span l.at (items span (λ room p. starts tag.Landings ws p) (landing (counts_got ws) ws) l.room l.at) ≡ ended span l.start (landings_of (counts_got ws) ws l.start);
+    }
 
 abbrev pub decreases-loop-at : goal.decreases-loop-at
-decreases-loop-at l = length l.words - l.at
+decreases-loop-at l = length l.self.words.now - l.at
