@@ -26,24 +26,6 @@ tagged_more t f at k v old mid new h e p q =
     ∙ ap (λ n. spliced at (map (tagged t) (upto f n)) old) (sym (add-one k))
 
 module _ (m : Meaning) where
-  pub counts_none : (old : List ℕ) → old ≡ spliced 1 (count_words m 0) old
-  unfolding count_words upto
-  counts_none old = splice_none 1 old
-
-  pub counts_more : (k v : ℕ) (old mid new : List ℕ) → 1 ≤ length old → v ≡ m.count k → mid ≡ spliced 1 (count_words m k) old
-      → new ≡ spliced (1 + k) (tagged tag.Count v ∷ []) mid → new ≡ spliced 1 (count_words m (k + 1)) old
-  unfolding count_words
-  counts_more k v old mid new h e p q = tagged_more tag.Count m.count 1 k v old mid new h e p q
-
-  pub records_none : (l at : ℕ) (old : List ℕ) → old ≡ spliced at (record_words m l 0) old
-  unfolding record_words upto
-  records_none l at old = splice_none at old
-
-  pub records_more : (l at r v : ℕ) (old mid new : List ℕ) → at ≤ length old → v ≡ lead m l r → mid ≡ spliced at (record_words m l r) old
-      → new ≡ spliced (at + r) (tagged tag.Record v ∷ []) mid → new ≡ spliced at (record_words m l (r + 1)) old
-  unfolding record_words
-  records_more l at r v old mid new h e p q = tagged_more tag.Record (lead m l) at r v old mid new h e p q
-
   pub links_none : links_words m 0 ≡ []
   unfolding links_words upto
   links_none = refl

@@ -6,6 +6,7 @@ ghost use Rattle.registers.specs.Parts.{file_words, row_words, count_words, reco
 ghost use Rattle.registers.specs.Writability.{writable_prop};
 
 use crate::register::Register;
+use crate::writing::each::put_each;
 use words::tags::Tag;
 
 // Puts one word.
@@ -22,10 +23,9 @@ fn put_records<R: Register>(register: &R, link: u32, n: u32, out: &mut [u32], at
     requires room { at + n ≤ length out.old }
     ensures { out.new ≡ spliced at (record_words (R.meaning register.now) link n) out.old }
 {
-    for r in 0..n {
-        let led = register.follow(link, r).unwrap_or(0);
-        put(out, at + r as usize, Tag::Record, led);
-    }
+    put_each(out, at, Tag::Record, n, |r| {
+        register.follow(link, r).unwrap_or(0)
+    });
 }
 
 // A register that passed the tests before a write.
@@ -41,14 +41,10 @@ impl<'a, R: Register> Tested<'a, R> {
         requires { (R.meaning self.now.register.now).kinds < length out.old }
         ensures { out.new ≡ spliced 1 (count_words (R.meaning self.now.register.now) (R.meaning self.now.register.now).kinds) out.old }
     {
-        for kind in 0..self.register.kinds() {
-            put(
-                out,
-                1 + kind as usize,
-                Tag::Count,
-                self.register.count(kind),
-            );
-        }
+        let register = self.register;
+        put_each(out, 1, Tag::Count, register.kinds(), |kind| {
+            register.count(kind)
+        });
     }
 
     // Puts a link and its records; tells the place behind them.

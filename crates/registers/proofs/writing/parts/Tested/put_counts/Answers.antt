@@ -1,12 +1,14 @@
-use Rattle.std.proofs.Common.{arith}
-use Rattle.registers.proofs.WrittenParts.{counts_none, counts_more}
+use Rattle.std.proofs.Common.{◌≡◌, map, ap, ◌∙◌, rules}
+use Rattle.words.specs.declared.tags.Tag.TheVariants as tag
+use Rattle.words.specs.Tags.{tagged}
+use Rattle.registers.specs.Splices.{spliced}
+use Rattle.registers.specs.Writing.{upto}
+use Rattle.registers.specs.Parts.{count_words}
 use Rattle.registers.proofs.writing.parts.Tested.put_counts.Goals as goal
 
-pub loop-kind-init : goal.loop-kind-init
-loop-kind-init g c = counts_none _ _
-
-pub loop-kind-preserved : goal.loop-kind-preserved
-loop-kind-preserved g c = counts_more _ c.loop-kind.kind _ _ _ _ (omega arith) c.count.ensures c.loop-kind.invariant c.put.ensures
-
-pub put-requires : goal.put-requires
-put-requires g c = (omega arith, omega (arith, c.args.self.now.writable.small c.loop-kind.kind (omega arith)))
+pub returns : goal.returns
+unfolding count_words
+returns g c =
+    let m = g.R.Register.meaning c.args.self.now.register.now in
+    let e : c.kinds.result ≡ m.kinds = search rules in
+    c.put_each.ensures m.count (λ k v h p. search rules) ∙ ap (λ n. spliced 1 (map (tagged tag.Count) (upto m.count n)) c.args.out.now) e
