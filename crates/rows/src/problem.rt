@@ -27,7 +27,8 @@ impl Rows<'_> {
         found.target.ends(self.words, l).unwrap_or((0, 0))
     }
 
-    // The target kind of the source kind `k`; any of a kind that there is not.
+    // The target kind of the source kind `k`; any of a kind that there is not. The reader of problems has the same expression for kind maps
+    // that it is still reading; a call for both would be longer.
     pub fn mapped(&self, found: &Found, k: u32) -> u32
         ensures { (L : Loaded) → Stands L (raw self.now) found.now → k < L.source_kinds → L.kind_map k ≡ result }
     {

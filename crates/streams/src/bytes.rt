@@ -11,16 +11,23 @@ fn word_at(bytes: &[u8], i: usize) -> u32
     u32::from_be_bytes([bytes[at], bytes[at + 1], bytes[at + 2], bytes[at + 3]])
 }
 
+// Puts the first words of the bytes into all of `words`.
+fn fill_words(bytes: &[u8], words: &mut [u32])
+    requires { 4 * length words.old ≤ length bytes.now }
+    ensures { words.new ≡ words_of bytes.now (length words.old) }
+{
+    for (i, word) in words.iter_mut().enumerate() {
+        *word = word_at(bytes, i);
+    }
+}
+
 // The whole words of the bytes, as many as there is room for; tells how many. A cut last word is left out.
 pub fn to_words(bytes: &[u8], words: &mut [u32]) -> usize
     ensures count { result ≡ min (length bytes.now / 4) (length words.old) }
     ensures words { words.new ≡ words_of bytes.now result ++ drop result words.old }
 {
     let n = (bytes.len() / 4).min(words.len());
-    // By index: of what is written through `iter_mut`, a proof knows only the length.
-    for i in 0..n {
-        words[i] = word_at(bytes, i);
-    }
+    fill_words(bytes, &mut words[..n]);
     n
 }
 
