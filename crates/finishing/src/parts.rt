@@ -9,7 +9,8 @@ ghost use Rattle.finishing.specs.Listing.{Each};
 
 use crate::Listing;
 use crate::records::number_in;
-use registers::writing::parts::{put, put_each};
+use registers::writing::each::put_each;
+use registers::writing::parts::put;
 use rows::Slot;
 use words::tags::Tag;
 

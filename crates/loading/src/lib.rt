@@ -21,6 +21,7 @@ mod places;
 pub struct Loading {
     pub found: Found,
     pub source: Source,
+    // No bounded list, as in `Load`: the outline tells how many there are.
     pub leads: [usize; 64],
     pub lands: usize,
     pub records: usize,

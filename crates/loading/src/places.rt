@@ -40,6 +40,7 @@ pub(crate) fn stack(counts: &[u32], place: usize) -> (Source, usize)
         start: 0,
     };
     let mut kinds = Bounded::new(none);
+    // By the index too: over a `zip` the proof would follow two iterators.
     for (k, records) in counts.iter().enumerate() {
         let start = starts[k];
         kinds.push(SourceKind {

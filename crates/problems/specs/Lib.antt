@@ -5,3 +5,4 @@ pub mod Shown
 pub mod Layout
 pub mod Accepts
 pub mod Tokens
+pub mod Sides

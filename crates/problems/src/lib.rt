@@ -16,7 +16,7 @@ mod rules;
 mod schemas;
 
 use crate::maps::{Maps, Sides};
-use crate::schemas::{Links, ends_at, schema_at};
+use crate::schemas::{Links, Side, ends_at, schema_at};
 use bounded::Bounded;
 use words::faults::SchemaFault;
 use words::reading::end;
@@ -86,8 +86,8 @@ fn rest(sides: &Sides, start: usize) -> Result<Found, SchemaFault>
 fn read(words: &[u32]) -> Result<Found, SchemaFault>
     ensures { told_of result ≡ outline_of (read_of words.now) }
 {
-    let source = schema_at(words, 0, 0)?;
-    let target = schema_at(words, 1, source.place + source.links)?;
+    let source = schema_at(words, Side::Source, 0)?;
+    let target = schema_at(words, Side::Target, source.place + source.links)?;
     let sides = Sides {
         source: Links {
             words,

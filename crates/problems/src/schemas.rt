@@ -2,6 +2,7 @@
 ghost use Rattle.std.specs.Prelude.{◌≡◌, ◌<◌, ◌≤◌, length, slice_index_or};
 ghost use Rattle.words.specs.Items.{one_word, sized, behind};
 ghost use Rattle.problems.specs.Problem.{no_link, schema as schema_of, link as link_of, links as links_of, whole_schema};
+ghost use Rattle.problems.specs.Sides.{side_number};
 ghost use Rattle.problems.specs.Seen.{ends_at, Linked, seen, stepped, reached};
 
 use crate::{KINDS, LINKS, Schema};
@@ -9,12 +10,19 @@ use words::faults::{SchemaFault, WordFault};
 use words::reading::{fields_at, starts, word};
 use words::tags::Tag;
 
+// The side of a problem that a schema is on; its word holds the number.
+#[derive(Clone, Copy)]
+pub(crate) enum Side {
+    Source = 0,
+    Target = 1,
+}
+
 // The kinds of the schema of a side.
-fn schema_kinds(words: &[u32], side: u32, at: usize) -> Result<u32, SchemaFault>
-    ensures { result ≡ schema_of side words.now at }
+fn schema_kinds(words: &[u32], side: Side, at: usize) -> Result<u32, SchemaFault>
+    ensures { result ≡ schema_of (side_number side) words.now at }
 {
     let v = word(words, at, Tag::Schema)?;
-    if v / 256 != side {
+    if v / 256 != side as u32 {
         return Err(WordFault::Wrong(at).into());
     }
     if v % 256 == 0 || v % 256 > KINDS {
@@ -50,8 +58,8 @@ fn count_links(words: &[u32], kinds: u32, start: usize) -> Result<usize, SchemaF
 }
 
 // A schema and its links.
-pub(crate) fn schema_at(words: &[u32], side: u32, at: usize) -> Result<Schema, SchemaFault>
-    ensures { result ≡ seen at (whole_schema side words.now at) }
+pub(crate) fn schema_at(words: &[u32], side: Side, at: usize) -> Result<Schema, SchemaFault>
+    ensures { result ≡ seen at (whole_schema (side_number side) words.now at) }
 {
     let kinds = schema_kinds(words, side, at)?;
     let links = count_links(words, kinds, at + 1)?;

@@ -9,6 +9,7 @@ use crate::writing::parts::Tested;
 use words::faults::{Fault, Refusal};
 
 pub mod checks;
+pub mod each;
 pub mod parts;
 
 // Why a register is not written.

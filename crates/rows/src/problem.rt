@@ -10,14 +10,17 @@ use problems::Found;
 use words::reading::fields_at;
 
 // What was loaded: the outline of the problem, and where the leads of each source link begin.
+// That some rows hold it is a condition where a call takes both; the table above and its searches have it as a fact of theirs.
 #[derive(Clone, Copy)]
 pub struct Load {
     pub found: Found,
+    // No bounded list: `found.source.links` tells how many there are, and a length of its own would say it twice.
     pub leads: [usize; 64],
 }
 
 impl Rows<'_> {
-    // The ends of the target link `l`; any of a link that there is not.
+    // The ends of the target link `l`; any of a link that there is not. No `Option`, as for the two questions below: who asks knows that
+    // there is such a number or refuses it by a test of its own, so a `None` would only add branches that nothing takes.
     pub fn link_ends(&self, found: &Found, l: u32) -> (u32, u32)
         ensures { (L : Loaded) → Stands L (raw self.now) found.now → l < L.links → (L.from l ≡ result.0) × (L.to l ≡ result.1) }
     {

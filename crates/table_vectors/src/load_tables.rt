@@ -1,33 +1,33 @@
 // Loads: problem words, a source, work words, and the capacity or the fault.
 use vectors::loose::Loose;
-use words::faults::Refusal;
-
-// The capacity of an accepted load, or the refusal and its place.
-#[derive(Clone, Copy, PartialEq, Eq, Debug)]
-pub enum Loads {
-    Capacity(u32),
-    Refused(Refusal, usize),
-}
+use words::faults::{Fault, Refusal};
 
 // So many kinds of so many records, links, their from and to kinds, and the record that each leads to.
 #[derive(Clone, Copy)]
 pub struct Source(pub u32, pub u32, pub u32, pub u32, pub u32, pub u32);
 
-impl Source {
-    pub fn register(self) -> Loose {
+impl From<Source> for Loose {
+    fn from(source: Source) -> Loose {
+        let Source(kinds, records, links, from, to, led) = source;
         Loose {
-            kinds: self.0,
-            records: self.1,
-            links: self.2,
-            from: self.3,
-            to: self.4,
-            led: self.5,
+            kinds,
+            records,
+            links,
+            from,
+            to,
+            led,
         }
     }
 }
 
+// The problem words, the source, the number of work words, and the capacity or the fault.
 #[derive(Clone, Copy)]
-pub struct Load(pub &'static [u32], pub Source, pub usize, pub Loads);
+pub struct Load(
+    pub &'static [u32],
+    pub Source,
+    pub usize,
+    pub Result<u32, Fault>,
+);
 
 // One kind on each side, and a target link.
 pub const FREE: [u32; 5] = [0x10000001, 0x10000101, 0x20000000, 0x50000000, 0x70000004];
@@ -59,187 +59,271 @@ pub const LOADS: [Load; 44] = [
         &FREE,
         Source(1, 1, 0, 0, 0, 0),
         0,
-        Loads::Refused(Refusal::Memory, 0),
+        Err(Fault {
+            refusal: Refusal::Memory,
+            place: 0,
+        }),
     ),
     Load(
         &FREE,
         Source(1, 1, 0, 0, 0, 0),
         5,
-        Loads::Refused(Refusal::Memory, 0),
+        Err(Fault {
+            refusal: Refusal::Memory,
+            place: 0,
+        }),
     ),
-    Load(&FREE, Source(1, 1, 0, 0, 0, 0), 6, Loads::Capacity(0)),
-    Load(&FREE, Source(1, 1, 0, 0, 0, 0), 9, Loads::Capacity(0)),
-    Load(&FREE, Source(1, 1, 0, 0, 0, 0), 10, Loads::Capacity(1)),
-    Load(&FREE, Source(1, 1, 0, 0, 0, 0), 13, Loads::Capacity(1)),
-    Load(&FREE, Source(1, 1, 0, 0, 0, 0), 14, Loads::Capacity(2)),
+    Load(&FREE, Source(1, 1, 0, 0, 0, 0), 6, Ok(0)),
+    Load(&FREE, Source(1, 1, 0, 0, 0, 0), 9, Ok(0)),
+    Load(&FREE, Source(1, 1, 0, 0, 0, 0), 10, Ok(1)),
+    Load(&FREE, Source(1, 1, 0, 0, 0, 0), 13, Ok(1)),
+    Load(&FREE, Source(1, 1, 0, 0, 0, 0), 14, Ok(2)),
     Load(
         &FREE,
         Source(1, 0, 0, 0, 0, 0),
         4,
-        Loads::Refused(Refusal::Memory, 0),
+        Err(Fault {
+            refusal: Refusal::Memory,
+            place: 0,
+        }),
     ),
-    Load(&FREE, Source(1, 0, 0, 0, 0, 0), 5, Loads::Capacity(0)),
-    Load(&FREE, Source(1, 0, 0, 0, 0, 0), 9, Loads::Capacity(1)),
+    Load(&FREE, Source(1, 0, 0, 0, 0, 0), 5, Ok(0)),
+    Load(&FREE, Source(1, 0, 0, 0, 0, 0), 9, Ok(1)),
     Load(
         &FREE,
         Source(1, 4095, 0, 0, 0, 0),
         4099,
-        Loads::Refused(Refusal::Memory, 0),
+        Err(Fault {
+            refusal: Refusal::Memory,
+            place: 0,
+        }),
     ),
-    Load(&FREE, Source(1, 4095, 0, 0, 0, 0), 4136, Loads::Capacity(9)),
+    Load(&FREE, Source(1, 4095, 0, 0, 0, 0), 4136, Ok(9)),
     Load(
         &ROUND,
         Source(1, 6, 1, 0, 0, 2),
         17,
-        Loads::Refused(Refusal::Memory, 0),
+        Err(Fault {
+            refusal: Refusal::Memory,
+            place: 0,
+        }),
     ),
-    Load(&ROUND, Source(1, 6, 1, 0, 0, 2), 18, Loads::Capacity(0)),
-    Load(&ROUND, Source(1, 6, 1, 0, 0, 2), 45, Loads::Capacity(9)),
-    Load(&ROUND, Source(1, 0, 1, 0, 0, 2), 6, Loads::Capacity(0)),
+    Load(&ROUND, Source(1, 6, 1, 0, 0, 2), 18, Ok(0)),
+    Load(&ROUND, Source(1, 6, 1, 0, 0, 2), 45, Ok(9)),
+    Load(&ROUND, Source(1, 0, 1, 0, 0, 2), 6, Ok(0)),
     Load(
         &JOINED,
         Source(2, 2, 1, 0, 1, 1),
         12,
-        Loads::Refused(Refusal::Memory, 0),
+        Err(Fault {
+            refusal: Refusal::Memory,
+            place: 0,
+        }),
     ),
-    Load(&JOINED, Source(2, 2, 1, 0, 1, 1), 13, Loads::Capacity(0)),
-    Load(&JOINED, Source(2, 2, 1, 0, 1, 1), 16, Loads::Capacity(1)),
+    Load(&JOINED, Source(2, 2, 1, 0, 1, 1), 13, Ok(0)),
+    Load(&JOINED, Source(2, 2, 1, 0, 1, 1), 16, Ok(1)),
     Load(
         &TWO_ROUND,
         Source(1, 2, 2, 0, 0, 1),
         13,
-        Loads::Refused(Refusal::Memory, 0),
+        Err(Fault {
+            refusal: Refusal::Memory,
+            place: 0,
+        }),
     ),
-    Load(&TWO_ROUND, Source(1, 2, 2, 0, 0, 1), 17, Loads::Capacity(1)),
+    Load(&TWO_ROUND, Source(1, 2, 2, 0, 0, 1), 17, Ok(1)),
     // another shape
     Load(
         &FREE,
         Source(0, 1, 0, 0, 0, 0),
         14,
-        Loads::Refused(Refusal::Shape, 0),
+        Err(Fault {
+            refusal: Refusal::Shape,
+            place: 0,
+        }),
     ),
     Load(
         &FREE,
         Source(2, 1, 0, 0, 0, 0),
         14,
-        Loads::Refused(Refusal::Shape, 0),
+        Err(Fault {
+            refusal: Refusal::Shape,
+            place: 0,
+        }),
     ),
     Load(
         &FREE,
         Source(1, 1, 1, 0, 0, 0),
         14,
-        Loads::Refused(Refusal::Shape, 0),
+        Err(Fault {
+            refusal: Refusal::Shape,
+            place: 0,
+        }),
     ),
     Load(
         &ROUND,
         Source(1, 6, 0, 0, 0, 2),
         45,
-        Loads::Refused(Refusal::Shape, 0),
+        Err(Fault {
+            refusal: Refusal::Shape,
+            place: 0,
+        }),
     ),
     Load(
         &ROUND,
         Source(1, 6, 2, 0, 0, 2),
         45,
-        Loads::Refused(Refusal::Shape, 0),
+        Err(Fault {
+            refusal: Refusal::Shape,
+            place: 0,
+        }),
     ),
     Load(
         &ROUND,
         Source(1, 6, 1, 1, 0, 2),
         45,
-        Loads::Refused(Refusal::Shape, 0),
+        Err(Fault {
+            refusal: Refusal::Shape,
+            place: 0,
+        }),
     ),
     Load(
         &ROUND,
         Source(1, 6, 1, 0, 1, 2),
         45,
-        Loads::Refused(Refusal::Shape, 0),
+        Err(Fault {
+            refusal: Refusal::Shape,
+            place: 0,
+        }),
     ),
     Load(
         &JOINED,
         Source(2, 2, 1, 1, 0, 1),
         16,
-        Loads::Refused(Refusal::Shape, 0),
+        Err(Fault {
+            refusal: Refusal::Shape,
+            place: 0,
+        }),
     ),
     // too many records, before a link that strays and before memory
     Load(
         &FREE,
         Source(1, 4096, 0, 0, 0, 0),
         0,
-        Loads::Refused(Refusal::Large, 0),
+        Err(Fault {
+            refusal: Refusal::Large,
+            place: 0,
+        }),
     ),
     Load(
         &FREE,
         Source(1, u32::MAX, 0, 0, 0, 0),
         9000,
-        Loads::Refused(Refusal::Large, 0),
+        Err(Fault {
+            refusal: Refusal::Large,
+            place: 0,
+        }),
     ),
     Load(
         &JOINED,
         Source(2, 2048, 1, 0, 1, 9999),
         9000,
-        Loads::Refused(Refusal::Large, 0),
+        Err(Fault {
+            refusal: Refusal::Large,
+            place: 0,
+        }),
     ),
     Load(
         &FREE,
         Source(2, 4096, 0, 0, 0, 0),
         9000,
-        Loads::Refused(Refusal::Shape, 0),
+        Err(Fault {
+            refusal: Refusal::Shape,
+            place: 0,
+        }),
     ),
     // a link that strays, before memory
     Load(
         &ROUND,
         Source(1, 6, 1, 0, 0, 6),
         0,
-        Loads::Refused(Refusal::Leads, 0),
+        Err(Fault {
+            refusal: Refusal::Leads,
+            place: 0,
+        }),
     ),
     Load(
         &ROUND,
         Source(1, 6, 1, 0, 0, u32::MAX),
         45,
-        Loads::Refused(Refusal::Leads, 0),
+        Err(Fault {
+            refusal: Refusal::Leads,
+            place: 0,
+        }),
     ),
     Load(
         &JOINED,
         Source(2, 2, 1, 0, 1, 2),
         16,
-        Loads::Refused(Refusal::Leads, 0),
+        Err(Fault {
+            refusal: Refusal::Leads,
+            place: 0,
+        }),
     ),
     // the problem's words come first, with their own places
     Load(
         &[],
         Source(0, 9999, 0, 0, 0, 0),
         0,
-        Loads::Refused(Refusal::Missing, 0),
+        Err(Fault {
+            refusal: Refusal::Missing,
+            place: 0,
+        }),
     ),
     Load(
         &[0x10000001, 0x10000101, 0x20000000],
         Source(1, 1, 0, 0, 0, 0),
         14,
-        Loads::Refused(Refusal::Missing, 3),
+        Err(Fault {
+            refusal: Refusal::Missing,
+            place: 3,
+        }),
     ),
     Load(
         &[0x10000101],
         Source(1, 1, 0, 0, 0, 0),
         14,
-        Loads::Refused(Refusal::Wrong, 0),
+        Err(Fault {
+            refusal: Refusal::Wrong,
+            place: 0,
+        }),
     ),
     Load(
         &[0x10000001, 0x10000101, 0x20000000, 0x50000000, 0x70000005],
         Source(1, 1, 0, 0, 0, 0),
         14,
-        Loads::Refused(Refusal::Wrong, 4),
+        Err(Fault {
+            refusal: Refusal::Wrong,
+            place: 4,
+        }),
     ),
     Load(
         &[0x10000021],
         Source(33, 1, 0, 0, 0, 0),
         14,
-        Loads::Refused(Refusal::Limit, 0),
+        Err(Fault {
+            refusal: Refusal::Limit,
+            place: 0,
+        }),
     ),
     Load(
         &[0x10000001, 0x10000101, 0x20000001, 0x50000000, 0x70000004],
         Source(1, 1, 0, 0, 0, 0),
         14,
-        Loads::Refused(Refusal::Unknown, 2),
+        Err(Fault {
+            refusal: Refusal::Unknown,
+            place: 2,
+        }),
     ),
     Load(
         &[
@@ -247,7 +331,10 @@ pub const LOADS: [Load; 44] = [
         ],
         Source(1, 6, 1, 0, 0, 2),
         45,
-        Loads::Refused(Refusal::Unknown, 5),
+        Err(Fault {
+            refusal: Refusal::Unknown,
+            place: 5,
+        }),
     ),
     Load(
         &[
@@ -256,6 +343,9 @@ pub const LOADS: [Load; 44] = [
         ],
         Source(1, 1, 0, 0, 0, 0),
         14,
-        Loads::Refused(Refusal::Unjoined, 8),
+        Err(Fault {
+            refusal: Refusal::Unjoined,
+            place: 8,
+        }),
     ),
 ];

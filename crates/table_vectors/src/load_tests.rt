@@ -1,36 +1,31 @@
 // Loads of tables, accepted and refused.
-use crate::load_tables::{LOADS, Load, Loads, ROUND, SECOND_STRAYS, TWO_ROUND};
+use crate::load_tables::{LOADS, Load, ROUND, SECOND_STRAYS, TWO_ROUND};
 use registers::blank::Blank;
 use registers::held::Held;
 use registers::register::Register;
 use registers::wheel::Wheel;
 use std::process::Abort;
 use table::table::Table;
+use vectors::loose::Loose;
 use words::faults::{Fault, Refusal};
 
 // Every work word holds this before a load.
 const OLD: u32 = 0xF1234567;
 
-fn loads<R: Register>(words: &mut [u32], problem: &[u32], source: &R) -> Loads {
+fn loads<R: Register>(words: &mut [u32], problem: &[u32], source: &R) -> Result<u32, Fault> {
     let mut table = Table::open(words);
-    match table.load(problem, source) {
-        Ok(()) => match table.capacity() {
-            Ok(n) => Loads::Capacity(n),
-            Err(refusal) => Loads::Refused(refusal, 0),
-        },
-        Err(fault) => {
-            let fault = Fault::from(fault);
-            Loads::Refused(fault.refusal, fault.place)
-        }
-    }
+    table.load(problem, source)?;
+    table
+        .capacity()
+        .map_err(|refusal| Fault { refusal, place: 0 })
 }
 
 // After a refused load every word is as it was.
 fn loads_row(rt: &impl Abort, row: usize, case: Load) {
     let mut words = [OLD; 9000];
-    let told = loads(&mut words[..case.2.min(9000)], case.0, &case.1.register());
+    let told = loads(&mut words[..case.2.min(9000)], case.0, &Loose::from(case.1));
     assert_eq!(rt; (row, told), (row, case.3));
-    if let Loads::Refused(_, _) = case.3 {
+    if case.3.is_err() {
         for word in &words {
             assert_eq!(rt; (row, *word), (row, OLD));
         }
@@ -48,23 +43,26 @@ fn loads_and_refusals(rt: HostRuntime) {
 #[test]
 fn layers_are_sources(rt: HostRuntime) {
     let mut words = [0; 45];
-    assert_eq!(rt;
-        loads(&mut words, &ROUND, &Wheel::new(6, &[2])),
-        Loads::Capacity(9)
-    );
+    assert_eq!(rt; loads(&mut words, &ROUND, &Wheel::new(6, &[2])), Ok(9));
     let mut held = Held::new();
     assert_eq!(rt; held.take(&SECOND_STRAYS).is_ok(), true);
-    assert_eq!(rt; loads(&mut words, &TWO_ROUND, &held), Loads::Capacity(9));
+    assert_eq!(rt; loads(&mut words, &TWO_ROUND, &held), Ok(9));
     assert_eq!(rt;
         loads(&mut words, &TWO_ROUND, &Blank::over(held)),
-        Loads::Refused(Refusal::Leads, 1)
+        Err(Fault {
+            refusal: Refusal::Leads,
+            place: 1
+        })
     );
     assert_eq!(rt;
         loads(&mut words, &ROUND, &Blank::over(Wheel::new(3, &[1]))),
-        Loads::Refused(Refusal::Leads, 0)
+        Err(Fault {
+            refusal: Refusal::Leads,
+            place: 0
+        })
     );
     assert_eq!(rt;
         loads(&mut words, &ROUND, &Blank::over(Wheel::new(1, &[1]))),
-        Loads::Capacity(13)
+        Ok(13)
     );
 }

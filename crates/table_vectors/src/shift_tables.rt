@@ -2,12 +2,7 @@
 use machine::answers::Ending;
 use words::faults::Refusal;
 
-#[derive(Clone, Copy)]
-pub enum Finish {
-    Words(&'static [u32]),
-    Refused(Refusal),
-}
-
+// A load and a shift of at most so many steps; how it ends, and the words of the finish or its refusal.
 #[derive(Clone, Copy)]
 pub struct Run {
     pub problem: &'static [u32],
@@ -18,7 +13,7 @@ pub struct Run {
     pub steps: u32,
     pub given: u32,
     pub living: u32,
-    pub finish: Finish,
+    pub finish: Result<&'static [u32], Refusal>,
 }
 
 pub const RUNS: [Run; 17] = [
@@ -37,7 +32,7 @@ pub const RUNS: [Run; 17] = [
         steps: 6,
         given: 2,
         living: 2,
-        finish: Finish::Words(&[
+        finish: Ok(&[
             0x80000001, 0x90000002, 0xC0060000, 0xB0000000, 0xB0000001, 0xB0000000, 0xB0000001,
             0xB0000000, 0xB0000001, 0x70000009,
         ]),
@@ -55,7 +50,7 @@ pub const RUNS: [Run; 17] = [
         steps: 4,
         given: 3,
         living: 3,
-        finish: Finish::Words(&[
+        finish: Ok(&[
             0x80000001, 0x90000003, 0xA0000000, 0xB0000001, 0xB0000002, 0xB0000001, 0xC0010000,
             0xB0000000, 0x70000008,
         ]),
@@ -73,7 +68,7 @@ pub const RUNS: [Run; 17] = [
         steps: 4,
         given: 3,
         living: 3,
-        finish: Finish::Words(&[
+        finish: Ok(&[
             0x80000001, 0x90000003, 0xA0000000, 0xB0000001, 0xB0000002, 0xB0000001, 0xC0010000,
             0xB0000000, 0x70000008,
         ]),
@@ -91,7 +86,7 @@ pub const RUNS: [Run; 17] = [
         steps: 3,
         given: 3,
         living: 3,
-        finish: Finish::Refused(Refusal::Incomplete),
+        finish: Err(Refusal::Incomplete),
     },
     // and with none
     Run {
@@ -106,7 +101,7 @@ pub const RUNS: [Run; 17] = [
         steps: 0,
         given: 0,
         living: 0,
-        finish: Finish::Refused(Refusal::Incomplete),
+        finish: Err(Refusal::Incomplete),
     },
     // a link without rules: full after two steps
     Run {
@@ -118,7 +113,7 @@ pub const RUNS: [Run; 17] = [
         steps: 2,
         given: 2,
         living: 2,
-        finish: Finish::Refused(Refusal::Incomplete),
+        finish: Err(Refusal::Incomplete),
     },
     // full after one
     Run {
@@ -130,7 +125,7 @@ pub const RUNS: [Run; 17] = [
         steps: 1,
         given: 1,
         living: 1,
-        finish: Finish::Refused(Refusal::Incomplete),
+        finish: Err(Refusal::Incomplete),
     },
     // full at once
     Run {
@@ -142,7 +137,7 @@ pub const RUNS: [Run; 17] = [
         steps: 0,
         given: 0,
         living: 0,
-        finish: Finish::Refused(Refusal::Incomplete),
+        finish: Err(Refusal::Incomplete),
     },
     // full, but the budget is spent first
     Run {
@@ -154,7 +149,7 @@ pub const RUNS: [Run; 17] = [
         steps: 2,
         given: 2,
         living: 2,
-        finish: Finish::Refused(Refusal::Incomplete),
+        finish: Err(Refusal::Incomplete),
     },
     // two steps are none, three steps are none: the fourth step merges
     Run {
@@ -169,7 +164,7 @@ pub const RUNS: [Run; 17] = [
         steps: 5,
         given: 2,
         living: 1,
-        finish: Finish::Words(&[
+        finish: Ok(&[
             0x80000001, 0x90000001, 0xA0000000, 0xB0000000, 0xC0010000, 0xB0000000, 0x70000006,
         ]),
     },
@@ -186,7 +181,7 @@ pub const RUNS: [Run; 17] = [
         steps: 4,
         given: 2,
         living: 1,
-        finish: Finish::Refused(Refusal::Waiting),
+        finish: Err(Refusal::Waiting),
     },
     // two records lead to one of another kind, both onto one kind
     Run {
@@ -202,7 +197,7 @@ pub const RUNS: [Run; 17] = [
         steps: 3,
         given: 1,
         living: 1,
-        finish: Finish::Words(&[
+        finish: Ok(&[
             0x80000001, 0x90000001, 0xC0020000, 0xB0000000, 0xB0000000, 0xC0010100, 0xB0000000,
             0x70000007,
         ]),
@@ -220,7 +215,7 @@ pub const RUNS: [Run; 17] = [
         steps: 0,
         given: 0,
         living: 0,
-        finish: Finish::Words(&[0x80000001, 0x90000000, 0xA0000000, 0xC0000000, 0x70000004]),
+        finish: Ok(&[0x80000001, 0x90000000, 0xA0000000, 0xC0000000, 0x70000004]),
     },
     // moorings at quays get berths
     Run {
@@ -239,7 +234,7 @@ pub const RUNS: [Run; 17] = [
         steps: 20,
         given: 10,
         living: 8,
-        finish: Finish::Words(&[
+        finish: Ok(&[
             0x80000003, 0x90000004, 0x90000002, 0x90000002, 0xA0000001, 0xB0000000, 0xB0000000,
             0xB0000001, 0xB0000001, 0xA0000102, 0xB0000000, 0xB0000001, 0xA0000201, 0xB0000000,
             0xB0000001, 0xC0040000, 0xB0000000, 0xB0000001, 0xB0000002, 0xB0000003, 0xC0020102,
@@ -260,7 +255,7 @@ pub const RUNS: [Run; 17] = [
         steps: 23,
         given: 5,
         living: 4,
-        finish: Finish::Words(&[
+        finish: Ok(&[
             0x80000001, 0x90000004, 0xA0000000, 0xB0000000, 0xB0000001, 0xB0000002, 0xB0000003,
             0xA0000000, 0xB0000001, 0xB0000002, 0xB0000003, 0xB0000000, 0xC0010000, 0xB0000000,
             0x7000000E,
@@ -280,7 +275,7 @@ pub const RUNS: [Run; 17] = [
         steps: 16,
         given: 7,
         living: 6,
-        finish: Finish::Words(&[
+        finish: Ok(&[
             0x80000001, 0x90000006, 0xA0000000, 0xB0000001, 0xB0000003, 0xB0000005, 0xB0000000,
             0xB0000002, 0xB0000004, 0xA0000000, 0xB0000002, 0xB0000004, 0xB0000000, 0xB0000005,
             0xB0000001, 0xB0000003, 0xC0010000, 0xB0000000, 0x70000012,
@@ -300,7 +295,7 @@ pub const RUNS: [Run; 17] = [
         steps: 20,
         given: 9,
         living: 8,
-        finish: Finish::Words(&[
+        finish: Ok(&[
             0x80000001, 0x90000008, 0xA0000000, 0xB0000001, 0xB0000003, 0xB0000005, 0xB0000006,
             0xB0000002, 0xB0000007, 0xB0000000, 0xB0000004, 0xA0000000, 0xB0000002, 0xB0000004,
             0xB0000000, 0xB0000007, 0xB0000001, 0xB0000006, 0xB0000005, 0xB0000003, 0xC0010000,

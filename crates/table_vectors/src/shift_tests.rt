@@ -1,5 +1,5 @@
 // Shifts played to their end, and finish.
-use crate::shift_tables::{Finish, RUNS, Run};
+use crate::shift_tables::{RUNS, Run};
 use machine::answers::Ending;
 use registers::held::Held;
 use std::process::Abort;
@@ -19,9 +19,7 @@ fn finishes(
     room: usize,
     out: &mut [u32; 64],
 ) -> Result<usize, Refusal> {
-    for word in out.iter_mut() {
-        *word = OLD;
-    }
+    out.fill(OLD);
     let told = table.finish(&mut out[..room.min(64)]);
     for word in &out[told.unwrap_or(0).min(64)..] {
         assert_eq!(rt; (row, *word), (row, OLD));
@@ -37,9 +35,7 @@ fn gives(rt: &impl Abort, row: usize, table: &mut Table, words: &[u32]) -> Resul
     for room in [words.len(), 64] {
         let told = finishes(rt, row, table, room, &mut out);
         assert_eq!(rt; (row, told), (row, Ok(words.len())));
-        for (i, word) in words.iter().enumerate() {
-            assert_eq!(rt; (row, out[i.min(63)]), (row, *word));
-        }
+        assert_eq!(rt; (row, &out[..words.len().min(64)]), (row, words));
     }
     Ok(())
 }
@@ -71,8 +67,8 @@ fn runs(rt: &impl Abort, row: usize, case: Run) -> Result<(), Fail> {
         (row, Ok(case.given), Ok(case.living))
     );
     match case.finish {
-        Finish::Words(words) => gives(rt, row, &mut table, words),
-        Finish::Refused(refusal) => {
+        Ok(words) => gives(rt, row, &mut table, words),
+        Err(refusal) => {
             let mut out = [0; 64];
             let told = finishes(rt, row, &mut table, 64, &mut out);
             assert_eq!(rt; (row, told), (row, Err(refusal)));

@@ -38,10 +38,7 @@ fn answers_each<R: Register>(rt: &impl Abort, register: &R, table: &[Ask]) {
 
 // The fault of a file that a held register refuses to take.
 fn refusal<'a>(held: &mut Held<'a>, words: &'a [u32]) -> Option<Fault> {
-    match held.take(words) {
-        Ok(()) => None,
-        Err(fault) => Some(Fault::from(fault)),
-    }
+    held.take(words).err().map(Fault::from)
 }
 
 // A held register answers by its file, and keeps it when another is refused.

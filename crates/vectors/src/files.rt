@@ -16,16 +16,11 @@ pub enum Reader {
 impl Reader {
     // The fault of a file, if it is refused.
     pub fn fault(self, words: &[u32]) -> Option<Fault> {
-        match self {
-            Reader::Register => match read_register(words) {
-                Ok(_) => None,
-                Err(fault) => Some(Fault::from(fault)),
-            },
-            Reader::Problem => match read_problem(words) {
-                Ok(_) => None,
-                Err(fault) => Some(Fault::from(fault)),
-            },
-        }
+        let read = match self {
+            Reader::Register => read_register(words).map(|_| ()),
+            Reader::Problem => read_problem(words).map(|_| ()),
+        };
+        read.err().map(Fault::from)
     }
 }
 
@@ -49,41 +44,10 @@ pub struct Run(pub u32, pub u32, pub u32);
 #[derive(Clone, Copy)]
 pub struct RunsRefused(pub &'static [Run], pub Refusal, pub usize);
 
-fn refuses(
-    rt: &impl Abort,
-    reader: Reader,
-    row: usize,
-    words: &[u32],
-    refusal: Refusal,
-    place: usize,
-) {
-    assert_eq!(rt;
-        (row, reader.fault(words)),
-        (row, Some(Fault { refusal, place }))
-    );
-}
-
-pub(crate) fn refuses_each(rt: &impl Abort, reader: Reader, table: &[Refused]) {
-    for (row, case) in table.iter().enumerate() {
-        refuses(rt, reader, row, case.0, case.1, case.2);
-    }
-}
-
-pub(crate) fn refuses_worded(rt: &impl Abort, reader: Reader, table: &[Worded]) {
-    for (row, case) in table.iter().enumerate() {
-        let fault = Fault {
-            refusal: case.1,
-            place: case.2,
-        };
-        assert_eq!(rt; (row, reader.fault(case.0)), (row, Some(fault)));
-        assert_eq!(rt; (row, fault.word()), (row, case.3));
-    }
-}
-
 // Adds the words of a run.
 fn push_run(words: &mut Vec<u32>, run: Run) -> Result<(), AllocError> {
     let mut word = run.0;
-    for _i in 0..run.2 {
+    for _ in 0..run.2 {
         words.push(word)?;
         word = word.wrapping_add(run.1);
     }
@@ -98,27 +62,15 @@ pub(crate) fn push_runs(words: &mut Vec<u32>, runs: &[Run]) -> Result<(), AllocE
     Ok(())
 }
 
-pub(crate) fn refuses_runs(
-    rt: &impl Abort,
-    heap: Global,
-    reader: Reader,
-    table: &[RunsRefused],
-) -> Result<(), Fail> {
-    for (row, case) in table.iter().enumerate() {
-        let mut words = Vec::new(heap);
-        push_runs(&mut words, case.0)?;
-        refuses(rt, reader, row, &words, case.1, case.2);
-    }
-    Ok(())
+// The words of runs.
+pub(crate) fn built(heap: Global, runs: &[Run]) -> Result<Vec<u32>, AllocError> {
+    let mut words = Vec::new(heap);
+    push_runs(&mut words, runs)?;
+    Ok(words)
 }
 
 // The words with another one at a place, or with one more.
-pub(crate) fn edited(
-    heap: Global,
-    words: &[u32],
-    at: usize,
-    word: u32,
-) -> Result<Vec<u32>, AllocError> {
+fn edited(heap: Global, words: &[u32], at: usize, word: u32) -> Result<Vec<u32>, AllocError> {
     let mut copy = words.to_vec(heap)?;
     match copy.get_mut(at) {
         Some(old) => *old = word,
@@ -127,61 +79,9 @@ pub(crate) fn edited(
     Ok(copy)
 }
 
-pub(crate) fn refuses_edits(
-    rt: &impl Abort,
-    heap: Global,
-    reader: Reader,
-    words: &[u32],
-    table: &[Edit],
-) -> Result<(), Fail> {
-    for (row, case) in table.iter().enumerate() {
-        let file = edited(heap, words, case.0, case.1)?;
-        refuses(rt, reader, row, &file, case.2, case.3);
-    }
-    Ok(())
-}
-
-// The first words of a whole file, however many: the next one is missing.
-pub(crate) fn misses_each(rt: &impl Abort, reader: Reader, words: &[u32]) {
-    for n in 0..words.len() {
-        refuses(rt, reader, n, &words[0..n], Refusal::Missing, n);
-    }
-}
-
 // Whether a word of that tag may stand where a run of other words can end.
 fn may_follow(tag: u32) -> bool {
     matches!(tag, 1 | 2 | 3 | 5 | 7 | 10 | 12)
-}
-
-// Another tag at a place is wrong there, unless both tags may follow a run.
-fn refuses_tags_at(
-    rt: &impl Abort,
-    heap: Global,
-    reader: Reader,
-    words: &[u32],
-    at: usize,
-    word: u32,
-) -> Result<(), Fail> {
-    let tag = word / 0x10000000;
-    for other in 0..16u32 {
-        if other != tag && !(may_follow(tag) && may_follow(other)) {
-            let file = edited(heap, words, at, other * 0x10000000 + word % 0x10000000)?;
-            refuses(rt, reader, at, &file, Refusal::Wrong, at);
-        }
-    }
-    Ok(())
-}
-
-pub(crate) fn refuses_tags(
-    rt: &impl Abort,
-    heap: Global,
-    reader: Reader,
-    words: &[u32],
-) -> Result<(), Fail> {
-    for (at, word) in words.iter().enumerate() {
-        refuses_tags_at(rt, heap, reader, words, at, *word)?;
-    }
-    Ok(())
 }
 
 // The lowest bit of a word that belongs to no field; 28 if there is none.
@@ -194,33 +94,99 @@ fn lowest_free(word: u32) -> u32 {
     }
 }
 
-// Each bit without a field is wrong where it is set.
-fn refuses_bits_at(
-    rt: &impl Abort,
-    heap: Global,
-    reader: Reader,
-    words: &[u32],
-    at: usize,
-    word: u32,
-) -> Result<(), Fail> {
-    let lowest = lowest_free(word);
-    for bit in 0..28u32 {
-        if bit >= lowest {
-            let file = edited(heap, words, at, word | (1u32 << bit))?;
-            refuses(rt, reader, at, &file, Refusal::Wrong, at);
-        }
-    }
-    Ok(())
+// A reader on trial: what it must refuse.
+#[derive(Drop)]
+pub(crate) struct Trial<'a, A> {
+    pub rt: &'a A,
+    pub heap: Global,
+    pub reader: Reader,
 }
 
-pub(crate) fn refuses_bits(
-    rt: &impl Abort,
-    heap: Global,
-    reader: Reader,
-    words: &[u32],
-) -> Result<(), Fail> {
-    for (at, word) in words.iter().enumerate() {
-        refuses_bits_at(rt, heap, reader, words, at, *word)?;
+impl<A: Abort> Trial<'_, A> {
+    fn refuses(&self, row: usize, words: &[u32], refusal: Refusal, place: usize) {
+        assert_eq!(self.rt;
+            (row, self.reader.fault(words)),
+            (row, Some(Fault { refusal, place }))
+        );
     }
-    Ok(())
+
+    pub(crate) fn refuses_each(&self, table: &[Refused]) {
+        for (row, case) in table.iter().enumerate() {
+            self.refuses(row, case.0, case.1, case.2);
+        }
+    }
+
+    pub(crate) fn refuses_worded(&self, table: &[Worded]) {
+        for (row, case) in table.iter().enumerate() {
+            let fault = Fault {
+                refusal: case.1,
+                place: case.2,
+            };
+            self.refuses(row, case.0, fault.refusal, fault.place);
+            assert_eq!(self.rt; (row, fault.word()), (row, case.3));
+        }
+    }
+
+    pub(crate) fn refuses_runs(&self, table: &[RunsRefused]) -> Result<(), Fail> {
+        for (row, case) in table.iter().enumerate() {
+            self.refuses(row, &built(self.heap, case.0)?, case.1, case.2);
+        }
+        Ok(())
+    }
+
+    // The first words of a whole file, however many: the next one is missing.
+    pub(crate) fn misses_each(&self, words: &[u32]) {
+        for n in 0..words.len() {
+            self.refuses(n, &words[..n], Refusal::Missing, n);
+        }
+    }
+
+    // The words are refused with this one at a place.
+    fn refuses_edited(&self, row: usize, words: &[u32], edit: Edit) -> Result<(), Fail> {
+        let file = edited(self.heap, words, edit.0, edit.1)?;
+        self.refuses(row, &file, edit.2, edit.3);
+        Ok(())
+    }
+
+    pub(crate) fn refuses_edits(&self, words: &[u32], table: &[Edit]) -> Result<(), Fail> {
+        for (row, edit) in table.iter().enumerate() {
+            self.refuses_edited(row, words, *edit)?;
+        }
+        Ok(())
+    }
+
+    // Another tag at a place is wrong there, unless both tags may follow a run.
+    fn refuses_tags_at(&self, words: &[u32], at: usize, word: u32) -> Result<(), Fail> {
+        let tag = word / 0x10000000;
+        for other in 0..16u32 {
+            if other != tag && !(may_follow(tag) && may_follow(other)) {
+                let wrong = other * 0x10000000 + word % 0x10000000;
+                self.refuses_edited(at, words, Edit(at, wrong, Refusal::Wrong, at))?;
+            }
+        }
+        Ok(())
+    }
+
+    pub(crate) fn refuses_tags(&self, words: &[u32]) -> Result<(), Fail> {
+        for (at, word) in words.iter().enumerate() {
+            self.refuses_tags_at(words, at, *word)?;
+        }
+        Ok(())
+    }
+
+    // Each bit without a field is wrong where it is set.
+    fn refuses_bits_at(&self, words: &[u32], at: usize, word: u32) -> Result<(), Fail> {
+        for bit in lowest_free(word)..28 {
+            let wrong = word | (1u32 << bit);
+            self.refuses_edited(at, words, Edit(at, wrong, Refusal::Wrong, at))?;
+        }
+        Ok(())
+    }
+
+    pub(crate) fn refuses_bits(&self, words: &[u32]) -> Result<(), Fail> {
+        for (at, word) in words.iter().enumerate() {
+            self.refuses_bits_at(words, at, *word)?;
+        }
+        Ok(())
+    }
 }

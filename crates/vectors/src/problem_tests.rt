@@ -1,8 +1,5 @@
 // What the reader of problems takes and refuses, and the tokens of what it took.
-use crate::files::{
-    Reader, Run, misses_each, push_runs, refuses_bits, refuses_each, refuses_edits, refuses_runs,
-    refuses_tags, refuses_worded,
-};
+use crate::files::{Reader, Run, Trial, built, push_runs};
 use crate::problem_tables::{
     FORMAT, FORMAT_EDITS, GGG, LARGEST_MAPS, LARGEST_RULES, LIMITS, MAP_EDITS, MAPS, REFUSED,
     RULE_EDITS, RULES, SCHEMA_EDITS, ShownMap, ShownRule, TAKEN, Taken, WHOLE,
@@ -13,39 +10,48 @@ use std::process::Abort;
 use std::test::Fail;
 use words::tokens::Token;
 
+fn on_trial(rt: &HostRuntime) -> Trial<'_, HostRuntime> {
+    Trial {
+        rt,
+        heap: rt.alloc(),
+        reader: Reader::Problem,
+    }
+}
+
 #[test]
 fn refuses_small_problems(rt: HostRuntime) {
-    refuses_worded(&rt, Reader::Problem, &FORMAT);
-    refuses_each(&rt, Reader::Problem, &REFUSED);
-    misses_each(&rt, Reader::Problem, &GGG);
-    misses_each(&rt, Reader::Problem, &WHOLE);
+    let trial = on_trial(&rt);
+    trial.refuses_worded(&FORMAT);
+    trial.refuses_each(&REFUSED);
+    trial.misses_each(&GGG);
+    trial.misses_each(&WHOLE);
 }
 
 #[test]
 fn refuses_edited_problems(rt: HostRuntime) -> Result<(), Fail> {
-    refuses_edits(&rt, rt.alloc(), Reader::Problem, &GGG, &FORMAT_EDITS)?;
-    refuses_edits(&rt, rt.alloc(), Reader::Problem, &WHOLE, &SCHEMA_EDITS)?;
-    refuses_edits(&rt, rt.alloc(), Reader::Problem, &WHOLE, &RULE_EDITS)?;
-    refuses_edits(&rt, rt.alloc(), Reader::Problem, &WHOLE, &MAP_EDITS)?;
-    refuses_tags(&rt, rt.alloc(), Reader::Problem, &WHOLE)?;
-    refuses_bits(&rt, rt.alloc(), Reader::Problem, &WHOLE)
+    let trial = on_trial(&rt);
+    trial.refuses_edits(&GGG, &FORMAT_EDITS)?;
+    trial.refuses_edits(&WHOLE, &SCHEMA_EDITS)?;
+    trial.refuses_edits(&WHOLE, &RULE_EDITS)?;
+    trial.refuses_edits(&WHOLE, &MAP_EDITS)?;
+    trial.refuses_tags(&WHOLE)?;
+    trial.refuses_bits(&WHOLE)
 }
 
 #[test]
 fn refuses_problems_at_limits(rt: HostRuntime) -> Result<(), Fail> {
-    refuses_runs(&rt, rt.alloc(), Reader::Problem, &LIMITS)
+    on_trial(&rt).refuses_runs(&LIMITS)
 }
 
 fn outline(words: &[u32]) -> Option<[usize; 8]> {
     let found = read_problem(words).ok()?;
     let source = found.source;
     let target = found.target;
-    let kinds = (source.kinds as usize, target.kinds as usize);
     Some([
-        kinds.0,
+        source.kinds as usize,
         source.links,
         source.place,
-        kinds.1,
+        target.kinds as usize,
         target.links,
         target.place,
         found.rules.len(),
@@ -55,8 +61,7 @@ fn outline(words: &[u32]) -> Option<[usize; 8]> {
 
 fn takes_each(rt: &impl Abort, heap: Global, table: &[Taken]) -> Result<(), Fail> {
     for (row, case) in table.iter().enumerate() {
-        let mut words = Vec::new(heap);
-        push_runs(&mut words, case.0)?;
+        let words = built(heap, case.0)?;
         assert_eq!(rt; (row, outline(&words)), (row, Some(case.1)));
     }
     Ok(())
@@ -75,9 +80,8 @@ fn push_maps(words: &mut Vec<u32>) -> Result<(), AllocError> {
 
 // The largest problem: 20,835 words.
 fn largest(heap: Global) -> Result<Vec<u32>, AllocError> {
-    let mut words = Vec::new(heap);
-    push_runs(
-        &mut words,
+    let mut words = built(
+        heap,
         &[
             Run(0x10000020, 0, 1),
             Run(0x20001F00, 0, 64),
@@ -85,7 +89,7 @@ fn largest(heap: Global) -> Result<Vec<u32>, AllocError> {
             Run(0x20001F1F, 0, 64),
         ],
     )?;
-    for _rule in 0..128u32 {
+    for _ in 0..128 {
         push_runs(
             &mut words,
             &[
@@ -116,11 +120,7 @@ fn takes_problems(rt: HostRuntime) -> Result<(), Fail> {
 
 // So many words from a place on; none if there are fewer.
 fn part(words: &[u32], at: usize, n: usize) -> &[u32] {
-    if at <= words.len() && n <= words.len() - at {
-        &words[at..at + n]
-    } else {
-        &[]
-    }
+    words.get(at..at.saturating_add(n)).unwrap_or(&[])
 }
 
 // The token of a rule: its first kind, its place, and its sides, which are the next words.
@@ -153,18 +153,6 @@ fn shows_rule(rt: &impl Abort, words: &[u32], found: &Found, case: ShownRule) ->
     }
 }
 
-fn shows_rules(
-    rt: &impl Abort,
-    words: &[u32],
-    found: &Found,
-    table: &[ShownRule],
-) -> Result<(), Fail> {
-    for case in table {
-        shows_rule(rt, words, found, *case)?;
-    }
-    Ok(())
-}
-
 // The token of a link map: its number, its place, and its path, which is the next words.
 fn shows_map(rt: &impl Abort, words: &[u32], found: &Found, case: ShownMap) -> Result<(), Fail> {
     match (link_map_at(words, found, case.0), case.1) {
@@ -178,18 +166,6 @@ fn shows_map(rt: &impl Abort, words: &[u32], found: &Found, case: ShownMap) -> R
     }
 }
 
-fn shows_maps(
-    rt: &impl Abort,
-    words: &[u32],
-    found: &Found,
-    table: &[ShownMap],
-) -> Result<(), Fail> {
-    for case in table {
-        shows_map(rt, words, found, *case)?;
-    }
-    Ok(())
-}
-
 fn shows_all(
     rt: &impl Abort,
     words: &[u32],
@@ -199,8 +175,11 @@ fn shows_all(
     let Ok(found) = read_problem(words) else {
         return Err(Fail::new("refused"));
     };
-    shows_rules(rt, words, &found, rules)?;
-    shows_maps(rt, words, &found, maps)
+    rules
+        .iter()
+        .try_for_each(|case| shows_rule(rt, words, &found, *case))?;
+    maps.iter()
+        .try_for_each(|case| shows_map(rt, words, &found, *case))
 }
 
 #[test]

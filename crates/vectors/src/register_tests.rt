@@ -1,31 +1,38 @@
 // What the reader of register files takes and refuses.
-use crate::files::{
-    Reader, Run, misses_each, push_runs, refuses_bits, refuses_each, refuses_edits, refuses_runs,
-    refuses_tags, refuses_worded,
-};
+use crate::files::{Reader, Run, Trial, built, push_runs};
 use crate::register_tables::{EDITS, FORMAT, LIMITS, REFUSED, TAKEN, Taken, WHOLE};
 use register_files::read_register;
 use std::alloc::{AllocError, Global};
 use std::process::Abort;
 use std::test::Fail;
 
+fn on_trial(rt: &HostRuntime) -> Trial<'_, HostRuntime> {
+    Trial {
+        rt,
+        heap: rt.alloc(),
+        reader: Reader::Register,
+    }
+}
+
 #[test]
 fn refuses_small_files(rt: HostRuntime) {
-    refuses_worded(&rt, Reader::Register, &FORMAT);
-    refuses_each(&rt, Reader::Register, &REFUSED);
-    misses_each(&rt, Reader::Register, &WHOLE);
+    let trial = on_trial(&rt);
+    trial.refuses_worded(&FORMAT);
+    trial.refuses_each(&REFUSED);
+    trial.misses_each(&WHOLE);
 }
 
 #[test]
 fn refuses_edited_files(rt: HostRuntime) -> Result<(), Fail> {
-    refuses_edits(&rt, rt.alloc(), Reader::Register, &WHOLE, &EDITS)?;
-    refuses_tags(&rt, rt.alloc(), Reader::Register, &WHOLE)?;
-    refuses_bits(&rt, rt.alloc(), Reader::Register, &WHOLE)
+    let trial = on_trial(&rt);
+    trial.refuses_edits(&WHOLE, &EDITS)?;
+    trial.refuses_tags(&WHOLE)?;
+    trial.refuses_bits(&WHOLE)
 }
 
 #[test]
 fn refuses_at_limits(rt: HostRuntime) -> Result<(), Fail> {
-    refuses_runs(&rt, rt.alloc(), Reader::Register, &LIMITS)
+    on_trial(&rt).refuses_runs(&LIMITS)
 }
 
 // The kinds of a file, its links, and the place of the last; none if it is refused.
@@ -37,8 +44,7 @@ fn outline(words: &[u32]) -> Option<(u32, usize, usize)> {
 
 fn takes_each(rt: &impl Abort, heap: Global, table: &[Taken]) -> Result<(), Fail> {
     for (row, case) in table.iter().enumerate() {
-        let mut words = Vec::new(heap);
-        push_runs(&mut words, case.0)?;
+        let words = built(heap, case.0)?;
         assert_eq!(rt;
             (row, outline(&words)),
             (row, Some((case.1, case.2, case.3)))
@@ -63,9 +69,8 @@ fn push_landings(words: &mut Vec<u32>) -> Result<(), AllocError> {
 
 // The largest register file: 4,325,410 words.
 fn largest(heap: Global) -> Result<Vec<u32>, AllocError> {
-    let mut words = Vec::new(heap);
-    push_runs(&mut words, &[Run(0x80000020, 0, 1), Run(0x9000FFFF, 0, 32)])?;
-    for _link in 0..64u32 {
+    let mut words = built(heap, &[Run(0x80000020, 0, 1), Run(0x9000FFFF, 0, 32)])?;
+    for _ in 0..64 {
         push_runs(
             &mut words,
             &[Run(0xA000001F, 0, 1), Run(0xB0000000, 1, 65535)],

@@ -1,7 +1,7 @@
 // Refusals as numbers and words, and words as tokens.
 use words::faults::Refusal;
 
-// A refusal, its number, its layer, and the word of a fault at place 7.
+// A refusal, its number and layer, which docs/FORMAT.md gives, and the word of a fault at place 7.
 #[derive(Clone, Copy)]
 pub struct Numbered(pub Refusal, pub u32, pub u32, pub u32);
 
@@ -38,6 +38,7 @@ pub const PLACES: [Placed; 6] = [
 ];
 
 // Words, a place in them, and the tag and fields of the token there; of a path, the number of its steps.
+// The tag stays a number, since docs/FORMAT.md gives it as one.
 #[derive(Clone, Copy)]
 pub struct Shown(pub &'static [u32], pub usize, pub [usize; 4]);
 

@@ -62,10 +62,7 @@ fn fields(token: Token<'_>) -> [usize; 4] {
 }
 
 fn shown(words: &[u32], at: usize) -> Result<[usize; 4], Fault> {
-    match token_at(words, at) {
-        Ok(token) => Ok(fields(token)),
-        Err(fault) => Err(Fault::from(fault)),
-    }
+    Ok(fields(token_at(words, at)?))
 }
 
 #[test]

@@ -53,6 +53,8 @@ pub enum Token<'a> {
     },
 }
 
+// That a word stands at `at` is a condition of the next three, and no type: the word was read before, so `token_at` has tested it.
+
 // A rule and its two paths, if all their words are there.
 fn rule_token<'a>(words: &'a [u32], at: usize, v: u32) -> Result<Token<'a>, WordFault>
     requires { at < length words.now }

@@ -1,4 +1,4 @@
-use Rattle.std.proofs.Common.{arith, rules}
+use Rattle.std.proofs.Common.{rules}
 use Rattle.rows.specs.View.{raw}
 use Rattle.numbering.proofs.Meeting.{New, next_below, next_new, numbered_more}
 use Rattle.numbering.proofs.mark.Goals.{After-kind-kind}
@@ -15,9 +15,6 @@ bounds-numbering-kind c = (new (goal.at.bounds-numbering-kind c).After-kind-kind
 
 pub at-slot-requires-clause-e_lt_capacity : goal.at-slot-requires-clause-e_lt_capacity
 at-slot-requires-clause-e_lt_capacity c = (new (goal.at.at-slot-requires-clause-e_lt_capacity c).After-kind-kind).room
-
-pub at-at-requires-clause-e_lt_capacity : goal.at-at-requires-clause-e_lt_capacity
-at-at-requires-clause-e_lt_capacity c = omega (arith, next_below (raw c.args.rows.now) c.args.numbering.now c.args.e c.requires, c.args.rows.now.fits.few)
 
 pub overflow_add-rows : goal.overflow_add-rows
 overflow_add-rows c = let n = new (goal.at.overflow_add-rows c).After-kind-kind in search rules

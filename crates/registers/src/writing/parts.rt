@@ -1,12 +1,12 @@
 // The words of a register, written part by part.
-ghost use Rattle.std.specs.Prelude.{◌≡◌, ℕ, ◌+◌, ◌<◌, ◌≤◌, [], ◌∷◌, ◌++◌, map, length, drop};
+ghost use Rattle.std.specs.Prelude.{◌≡◌, ◌+◌, ◌<◌, ◌≤◌, [], ◌∷◌, ◌++◌, length, drop};
 ghost use Rattle.words.specs.Tags.{tagged};
-ghost use Rattle.registers.specs.Writing.{upto};
 ghost use Rattle.registers.specs.Splices.{spliced};
-ghost use Rattle.registers.specs.Parts.{file_words, row_words, count_words, record_words, links_words, Told, LeadsFit, Writable};
+ghost use Rattle.registers.specs.Parts.{file_words, row_words, count_words, record_words, links_words, LeadsFit, Writable};
 ghost use Rattle.registers.specs.Writability.{writable_prop};
 
 use crate::register::Register;
+use crate::writing::each::put_each;
 use words::tags::Tag;
 
 // Puts one word.
@@ -15,18 +15,6 @@ pub fn put(out: &mut [u32], at: usize, tag: Tag, fields: u32)
     ensures { out.new ≡ spliced at (tagged tag fields ∷ []) out.old }
 {
     out[at] = tag.number() * 268435456 + fields;
-}
-
-// Puts `n` words of one tag; `fields` tells what each holds.
-pub fn put_each<F: Fn(u32) -> u32>(out: &mut [u32], at: usize, tag: Tag, n: u32, fields: F)
-    requires room { at + n ≤ length out.old }
-    requires asked { (i : ℕ) → i < n → F.pre fields i }
-    requires small { (i v : ℕ) → i < n → F.post fields i v → v < 268435456 }
-    ensures { (f : ℕ → ℕ) → Told (F.post fields) n f → out.new ≡ spliced at (map (tagged tag) (upto f n)) out.old }
-{
-    for i in 0..n {
-        put(out, at + i as usize, tag, fields(i));
-    }
 }
 
 // Puts where each of the first n records leads.

@@ -7,9 +7,6 @@ use Rattle.finishing.proofs.Listing.links_size.Goals as goal
 pub loop-l-init : goal.loop-l-init
 loop-l-init c = (λ L s w. sym (appended_none (link_part L s)), omega arith)
 
-pub overflow_add-total : goal.overflow_add-total
-overflow_add-total c = omega (arith, c.loop-l.invariant.1, c.link_size-total.ensures.fits, c.args.self.now.rows.now.fits.narrow)
-
 pub loop-l-preserved : goal.loop-l-preserved
 loop-l-preserved c = (
   λ L s w.
@@ -20,11 +17,7 @@ loop-l-preserved c = (
   omega (arith, c.loop-l.invariant.1, c.link_size-total.ensures.fits),
 )
 
-pub returns : goal.returns
-returns c =
-    let n = c.args.self.now.rows.now.fits.narrow in
+pub returns-clause-words : goal.returns-clause-words
+returns-clause-words c L s w =
     let e : c.loop-l.l ≡ c.args.self.now.rows.now.links = omega arith in
-    record {
-      words = λ L s w. c.loop-l.invariant.0 L s w ∙ ap (λ l. length (appended (link_part L s) l)) e;
-      fits = omega (arith, c.loop-l.invariant.1, n);
-    }
+    c.loop-l.invariant.0 L s w ∙ ap (λ l. length (appended (link_part L s) l)) e

@@ -9,9 +9,6 @@ use Rattle.finishing.proofs.Listing.write.Goals as goal
 pub returns-then-size-out : goal.returns-then-size-out
 returns-then-size-out c L s x = file_refused L s c.args.out.now (∥∥₁_elim x le_prop (λ w. let e = c.size.ensures L s w in omega arith))
 
-pub put_file-requires : goal.put_file-requires
-put_file-requires c L s w = let e = c.size.ensures L s w in omega arith
-
 pub returns : goal.returns
 returns c L s x =
     file_told L s c.args.out.now _ _ (∥∥₁_elim x le_prop (λ w. let e = c.size.ensures L s w in omega arith))

@@ -2,7 +2,7 @@ use Rattle.std.proofs.Common.{arith}
 use Rattle.registers.specs.Writing.{upto}
 use Rattle.registers.proofs.WrittenSplices.{splice_none}
 use Rattle.registers.proofs.WrittenParts.{tagged_more}
-use Rattle.registers.proofs.writing.parts.put_each.Goals as goal
+use Rattle.registers.proofs.writing.each.put_each.Goals as goal
 
 pub put-requires : goal.put-requires
 put-requires g c = (omega arith, c.requires.small c.loop-i.i _ c.loop-i-test.true c.fields.ensures)
