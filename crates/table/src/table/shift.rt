@@ -13,7 +13,7 @@ pub struct Shift {
     ghost bound: { left + done < 2 ^ 32 },
 }
 
-// A shift goes on, or has ended after so many steps. A type of its own, and not ControlFlow: its variants are the two answers of a step by name.
+// A shift goes on, or has ended after so many steps. Not ControlFlow: Continue and Break would hide which of the two the shift has come to.
 pub enum Step {
     Going(Shift),
     Ended(Ending, u32),

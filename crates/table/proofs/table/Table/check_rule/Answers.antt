@@ -1,7 +1,4 @@
-use Rattle.machine.specs.Checking.{rule_effect}
-use Rattle.machine.specs.Calls.{check_rule, rule_fault}
-use Rattle.machine.specs.Tables.{answered, outcome}
-use Rattle.rows.specs.View.{raw}
+use Rattle.machine.specs.Calls.{check_rule}
 use Rattle.table.proofs.After.{taken, holds, still, called}
 use Rattle.table.proofs.table.Table.check_rule.Goals as goal
 
@@ -12,11 +9,10 @@ pub invariant_of-self-2 : goal.invariant_of-self-2
 invariant_of-self-2 c =
     let t = c.args.self.now in
     let is = c.in-Some.is in
-    still t _ is (check_rule c.args.e c.args.i) (raw c.check_rule.new.self) (c.check_rule.ensures.after _ (holds t _ is).stands)
+    still t _ is (check_rule c.args.e c.args.i) _ (c.check_rule.ensures.after _ (holds t _ is).stands)
 
 pub returns : goal.returns
 returns c =
     let t = c.args.self.now in
     let is = c.in-Some.is in
-    called t _ is (check_rule c.args.e c.args.i) (raw c.check_rule.new.self) (c.check_rule.ensures.after _ (holds t _ is).stands)
-    (λ L s. answered (rule_fault L s c.args.e c.args.i) (outcome (rule_effect L s c.args.e c.args.i))) _ (c.check_rule.ensures.is _ (holds t _ is).stands)
+    called t _ is (check_rule c.args.e c.args.i) _ (c.check_rule.ensures.after _ (holds t _ is).stands) _ _ (c.check_rule.ensures.is _ (holds t _ is).stands)

@@ -1,7 +1,4 @@
-use Rattle.machine.specs.Checking.{link_effect}
-use Rattle.machine.specs.Calls.{check_link, link_fault}
-use Rattle.machine.specs.Tables.{answered, outcome}
-use Rattle.rows.specs.View.{raw}
+use Rattle.machine.specs.Calls.{check_link}
 use Rattle.table.proofs.After.{taken, holds, still, called}
 use Rattle.table.proofs.table.Table.check_source_link.Goals as goal
 
@@ -12,11 +9,10 @@ pub invariant_of-self-2 : goal.invariant_of-self-2
 invariant_of-self-2 c =
     let t = c.args.self.now in
     let is = c.in-Some.is in
-    still t _ is (check_link c.args.i c.args.q) (raw c.check_link.new.self) (c.check_link.ensures.after _ (holds t _ is))
+    still t _ is (check_link c.args.i c.args.q) _ (c.check_link.ensures.after _ (holds t _ is))
 
 pub returns : goal.returns
 returns c =
     let t = c.args.self.now in
     let is = c.in-Some.is in
-    called t _ is (check_link c.args.i c.args.q) (raw c.check_link.new.self) (c.check_link.ensures.after _ (holds t _ is))
-    (λ L s. answered (link_fault L s c.args.i c.args.q) (outcome (link_effect L s c.args.i c.args.q))) _ (c.check_link.ensures.is _ (holds t _ is))
+    called t _ is (check_link c.args.i c.args.q) _ (c.check_link.ensures.after _ (holds t _ is)) _ _ (c.check_link.ensures.is _ (holds t _ is))

@@ -1,6 +1,4 @@
-use Rattle.machine.specs.Calls.{define, define_fault}
-use Rattle.machine.specs.Tables.{answered}
-use Rattle.rows.specs.View.{raw}
+use Rattle.machine.specs.Calls.{define}
 use Rattle.table.proofs.After.{holds, ends, still, called}
 use Rattle.table.proofs.table.Table.define.Goals as goal
 
@@ -9,12 +7,11 @@ invariant_of-self-2 c =
     let t = c.args.self.now in
     let is = c.in-Some.is in
     let e = ends t _ is _ _ c.link_ends-from.ensures in
-    still t _ is (define c.args.e c.args.l) (raw c.define.new.self) (c.define.ensures.after _ (holds t _ is).carries (λ k. (e k).0) (λ k. (e k).1))
+    still t _ is (define c.args.e c.args.l) _ (c.define.ensures.after _ (holds t _ is).carries (λ k. (e k).0) (λ k. (e k).1))
 
 pub returns : goal.returns
 returns c =
     let t = c.args.self.now in
     let is = c.in-Some.is in
     let e = ends t _ is _ _ c.link_ends-from.ensures in
-    called t _ is (define c.args.e c.args.l) (raw c.define.new.self) (c.define.ensures.after _ (holds t _ is).carries (λ k. (e k).0) (λ k. (e k).1))
-    (λ L s. answered (define_fault L s c.args.e c.args.l) s.given) _ (c.define.ensures.is _ (holds t _ is).carries (λ k. (e k).0))
+    called t _ is (define c.args.e c.args.l) _ (c.define.ensures.after _ (holds t _ is).carries (λ k. (e k).0) (λ k. (e k).1)) _ _ (c.define.ensures.is _ (holds t _ is).carries (λ k. (e k).0))

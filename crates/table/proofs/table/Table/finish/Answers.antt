@@ -16,7 +16,7 @@ pub returns-then-is_some : goal.returns-then-is_some
 returns-then-is_some c =
     let t = c.args.self.now in
     let is = c.in-Some.is in
-    refused t refusal.Incomplete _ (incomplete t _ is (omega (arith, c.if-self-gt0.false)) c.next.result (c.next.ensures _ (holds t _ is)) (sym c.if-is_some.ensures) _)
+    refused t refusal.Incomplete _ (incomplete t _ is (omega (arith, c.if-self-gt0.false)) _ (c.next.ensures _ (holds t _ is)) (sym c.if-is_some.ensures) _)
 
 pub finish-requires : goal.finish-requires
 finish-requires c =
@@ -25,7 +25,7 @@ finish-requires c =
     let quiet : t.rows.waits ≡ 0 = omega (arith, c.if-self-gt0.false) in
     let o = c.next.ensures _ (holds t _ is) in
     let none = sym c.if-is_some.ensures in
-    record { countable = may_count t _ is quiet c.next.result o none; finishing = (taken t _ is, may_finish t _ is quiet c.next.result o none) }
+    record { countable = may_count t _ is quiet _ o none; finishing = (taken t _ is, may_finish t _ is quiet _ o none) }
 
 pub invariant_of-self-2 : goal.invariant_of-self-2
 invariant_of-self-2 c = unchanged c.args.self.now _ c.in-Some.is (raw c.finish.new.rows) c.finish.ensures.after
@@ -37,12 +37,12 @@ returns c =
     let quiet : t.rows.waits ≡ 0 = omega (arith, c.if-self-gt0.false) in
     let o = c.next.ensures _ (holds t _ is) in
     let none = sym c.if-is_some.ensures in
-    let put = c.finish.ensures.answer _ (may_finish t _ is quiet c.next.result o none) in
+    let put = c.finish.ensures.answer _ (may_finish t _ is quiet _ o none) in
     let b = raw c.finish.new.rows in
     record {
-      answer = accepted t _ is quiet c.next.result o none c.finish.result c.args.out.now c.finish.new.out put;
+      answer = accepted t _ is quiet _ o none _ _ _ put;
       same = view_same t _ is b c.finish.ensures.after;
       kept = origin_same t _ is b (λ s. s) c.finish.ensures.after;
       promise = promised_by t.load b (unchanged t _ is b c.finish.ensures.after).reached;
-      back = back t _ is quiet c.next.result o none c.finish.result c.args.out.now c.finish.new.out put;
+      back = back t _ is quiet _ o none _ _ _ put;
     }

@@ -1,7 +1,5 @@
-use Rattle.std.proofs.Common.{◌<◌, length, arith}
-use Rattle.machine.specs.Calls.{settle, settle_fault, apply}
-use Rattle.machine.specs.Tables.{answered}
-use Rattle.rows.specs.View.{raw}
+use Rattle.std.proofs.Common.{◌<◌, arith}
+use Rattle.machine.specs.Calls.{settle}
 use Rattle.table.proofs.After.{taken, holds, first_known, still, called}
 use Rattle.table.proofs.Asked.{settling, settling_told, idle}
 use Rattle.table.proofs.Promises.{left}
@@ -18,7 +16,7 @@ invariant_of-self c =
     let t = c.args.self.now in
     let is = c.in_ok-loaded.ensures.1 in
     let some : 0 < t.rows.waits = omega (arith, c.if-self-eq0.false) in
-    still t _ is settle (raw c.settle.new.self) (settling (taken t _ is) (raw t.rows) (raw c.settle.new.self) some (c.settle.ensures (taken t _ is) (holds t _ is).carries.links))
+    still t _ is settle _ (settling (taken t _ is) _ _ some (c.settle.ensures (taken t _ is) (holds t _ is).carries.links))
 
 pub returns : goal.returns
 returns c =
@@ -26,5 +24,4 @@ returns c =
     let is = c.in_ok-loaded.ensures.1 in
     let some : 0 < t.rows.waits = omega (arith, c.if-self-eq0.false) in
     let b = c.settle.ensures (taken t _ is) (holds t _ is).carries.links in
-    called t _ is settle (raw c.settle.new.self) (settling (taken t _ is) (raw t.rows) (raw c.settle.new.self) some b)
-    (λ L s. answered (settle_fault s) (length (apply L settle s).waiting)) _ (settling_told (taken t _ is) (raw t.rows) (raw c.settle.new.self) some b)
+    called t _ is settle _ (settling (taken t _ is) _ _ some b) _ _ (settling_told (taken t _ is) _ _ some b)

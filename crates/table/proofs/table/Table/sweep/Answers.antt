@@ -1,8 +1,5 @@
-use Rattle.std.proofs.Common.{◌-◌, arith}
-use Rattle.machine.specs.Calls.{sweep, sweep_fault}
-use Rattle.machine.specs.Sweeping.{rank}
-use Rattle.machine.specs.Tables.{answered}
-use Rattle.rows.specs.View.{raw}
+use Rattle.std.proofs.Common.{arith}
+use Rattle.machine.specs.Calls.{sweep}
 use Rattle.table.proofs.After.{taken, held_live, still, called}
 use Rattle.table.proofs.Asked.{sweeping, sweeping_told, busy}
 use Rattle.table.proofs.Promises.{left}
@@ -18,12 +15,11 @@ pub invariant_of-self : goal.invariant_of-self
 invariant_of-self c =
     let t = c.args.self.now in
     let is = c.in_ok-loaded.ensures.1 in
-    still t _ is sweep (raw c.sweep.new.self) (sweeping (taken t _ is) (raw t.rows) (raw c.sweep.new.self) c.if-self-gt0.false c.sweep.ensures.becomes)
+    still t _ is sweep _ (sweeping (taken t _ is) _ _ c.if-self-gt0.false c.sweep.ensures.becomes)
 
 pub returns : goal.returns
 returns c =
     let t = c.args.self.now in
     let is = c.in_ok-loaded.ensures.1 in
-    let b = sweeping (taken t _ is) (raw t.rows) (raw c.sweep.new.self) c.if-self-gt0.false c.sweep.ensures.becomes in
-    called t _ is sweep (raw c.sweep.new.self) b
-    (λ L s. answered (sweep_fault s) (s.given - rank s.forward s.given)) _ (sweeping_told (taken t _ is) (raw t.rows) (raw c.sweep.new.self) c.if-self-gt0.false c.sweep.ensures.becomes _ c.sweep.ensures.dropped)
+    let b = sweeping (taken t _ is) _ _ c.if-self-gt0.false c.sweep.ensures.becomes in
+    called t _ is sweep _ b _ _ (sweeping_told (taken t _ is) _ _ c.if-self-gt0.false c.sweep.ensures.becomes _ c.sweep.ensures.dropped)
