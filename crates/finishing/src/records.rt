@@ -5,6 +5,7 @@ ghost use Rattle.rows.specs.View.{raw, slot};
 ghost use Rattle.finishing.specs.Records.{appended, number_in, Numbered, lead_word, Led};
 
 use crate::Listing;
+use numbering::MARK;
 use registers::writing::parts::put;
 use rows::{Rows, Slot};
 use words::tags::Tag;
@@ -16,7 +17,7 @@ pub(crate) fn number_in(rows: &Rows, t: Slot) -> u32
     ensures fits { result < 65536 }
 {
     match rows.held(t) {
-        Some(w) => rows.read(w as usize, 1) - 65536,
+        Some(w) => rows.read(w as usize, 1) - MARK,
         None => 0,
     }
 }
