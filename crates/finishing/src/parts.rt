@@ -1,6 +1,4 @@
 // The register file of a numbered table, written part by part.
-// Not by the writer of registers over a register of its own: that asks where a record leads by its number, and here the entry of a number
-// would have to be searched for each; the words of one tag are written by the same `put_each`.
 ghost use Rattle.std.specs.Prelude.{◌≡◌, ◌+◌, ◌<◌, ◌≤◌, ◌++◌, length, drop};
 ghost use Rattle.registers.specs.Splices.{spliced};
 ghost use Rattle.rows.specs.Layout.{count};
