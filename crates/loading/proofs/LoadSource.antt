@@ -138,33 +138,33 @@ capacity_fits work base links h =
     omega arith
 
 -- all tests are passed
-module _ (work : ℕ) (ws : List ℕ) (m : Meaning) (l : Loading) (t : told (Ok l.found) ≡ outline_of (read ws)) where
-  pub planned : (next : ℕ) → Lawful m → false ≡ other_shape (problem_in ws) m → l.lands ≡ length ws → kinds_of l.source ≡ l.found.source.kinds
+module _ (work : ℕ) (ws : List ℕ) (m : Meaning) (l : Loading) (t : told (Ok l.load.found) ≡ outline_of (read ws)) where
+  pub planned : (next : ℕ) → Lawful m → false ≡ other_shape (problem_in ws) m → l.lands ≡ length ws → kinds_of l.source ≡ l.load.found.source.kinds
       → counts_of l.source ≡ upto m.count (kinds_of l.source)
       → starts_of l.source ≡ upto (λ k. l.lands + sum m.count k) (kinds_of l.source)
       → next ≡ l.lands + sum m.count (kinds_of l.source) → l.records ≡ next - l.lands → l.records ≤ 4095
       → None ≡ lowest (link_strays (problem_in ws) m) (length (problem_in ws).source_links)
-      → take l.found.source.links l.leads ≡ upto (λ i. next + sum (leaving (problem_in ws) m.count) i) l.found.source.links
-      → l.base ≡ next + sum (leaving (problem_in ws) m.count) l.found.source.links → l.base ≤ work → l.links ≡ l.found.target.links
+      → take l.load.found.source.links l.load.leads ≡ upto (λ i. next + sum (leaving (problem_in ws) m.count) i) l.load.found.source.links
+      → l.base ≡ next + sum (leaving (problem_in ws) m.count) l.load.found.source.links → l.base ≤ work → l.links ≡ l.load.found.target.links
       → l.capacity ≡ min 65535 ((work - l.base) / (l.links + 3)) → Planned work ws m l
   planned next lawful a lands kinds counts starts n records few o leads base room links capacity =
-      let s = sourced ws l.found t in
-      let g = targets ws l.found t in
+      let s = sourced ws l.load.found t in
+      let g = targets ws l.load.found t in
       let c : l.records ≡ sum m.count (kinds_of l.source) = omega arith in
       let d : next ≡ l.lands + l.records = omega arith in
-      let b : l.base ≡ l.lands + l.records + sum (leaving (problem_in ws) m.count) l.found.source.links = omega arith in
-      let w : l.base ≡ length ws + l.records + sum (leaving (problem_in ws) m.count) l.found.source.links = omega arith in
+      let b : l.base ≡ l.lands + l.records + sum (leaving (problem_in ws) m.count) l.load.found.source.links = omega arith in
+      let w : l.base ≡ length ws + l.records + sum (leaving (problem_in ws) m.count) l.load.found.source.links = omega arith in
       let k = min-le_left 65535 ((work - l.base) / (l.links + 3)) in
       let f = capacity_fits work l.base l.links room in
       record {
         told = t;
         sourced = s;
         lawful = lawful;
-        load = loaded ws l.found t work m a l.records (c ∙ ap (sum m.count) kinds) few o l.base w l.capacity room (capacity ∙ ap (λ x. min 65535 ((work - l.base) / (x + 3))) links);
+        load = loaded ws l.load.found t work m a l.records (c ∙ ap (sum m.count) kinds) few o l.base w l.capacity room (capacity ∙ ap (λ x. min 65535 ((work - l.base) / (x + 3))) links);
         kinds = kinds;
         counts = counts;
         starts = starts;
-        leads = leads ∙ ap (λ x. upto (λ i. x + sum (leaving (problem_in ws) m.count) i) l.found.source.links) d;
+        leads = leads ∙ ap (λ x. upto (λ i. x + sum (leaving (problem_in ws) m.count) i) l.load.found.source.links) d;
         lands = lands;
         records = c;
         lot = omega arith;

@@ -24,12 +24,12 @@ use Rattle.loading.proofs.LoadCopies.{leads_length, leads_at}
 
 module _ (old ws : List ℕ) (m : Meaning) (l : Loading) (p : Planned (length old) ws m l) (mid low new : List ℕ)
     (copied_in : mid ≡ spliced 0 ws old) (emptied : low ≡ spliced l.lands (upto (λ i. 0) l.records) mid)
-    (led : new ≡ spliced (l.lands + l.records) (lead_words (problem_in ws) m l.found.source.links) low) where
+    (led : new ≡ spliced (l.lands + l.records) (lead_words (problem_in ws) m l.load.found.source.links) low) where
   abbrev zeros : List ℕ
   zeros = upto (λ i. 0) l.records
 
   abbrev leads : List ℕ
-  leads = lead_words (problem_in ws) m l.found.source.links
+  leads = lead_words (problem_in ws) m l.load.found.source.links
 
   abbrev rest : List ℕ
   rest = drop l.base old
@@ -41,7 +41,7 @@ module _ (old ws : List ℕ) (m : Meaning) (l : Loading) (p : Planned (length ol
   front_length = length-append ws zeros ∙ ap (λ n. length ws + n) (upto_length (λ i. 0) l.records) ∙ ap (λ n. n + l.records) (sym p.lands)
 
   body_length : length ((ws ++ zeros) ++ leads) ≡ l.base
-  body_length = length-append (ws ++ zeros) leads ∙ ap (λ n. n + length leads) front_length ∙ ap (λ n. l.lands + l.records + n) (leads_length (problem_in ws) m l.found.source.links) ∙ sym p.base
+  body_length = length-append (ws ++ zeros) leads ∙ ap (λ n. n + length leads) front_length ∙ ap (λ n. l.lands + l.records + n) (leads_length (problem_in ws) m l.load.found.source.links) ∙ sym p.base
 
   whole : new ≡ ((ws ++ zeros) ++ leads) ++ rest
   whole =
@@ -77,17 +77,17 @@ module _ (old ws : List ℕ) (m : Meaning) (l : Loading) (p : Planned (length ol
       ap (λ (v : List ℕ). get_or v (l.lands + j) 0) parts ∙ ap (λ (n : ℕ). get_or (ws ++ (zeros ++ (leads ++ rest))) (n + j) 0) p.lands ∙ get_or-append-add ws (zeros ++ (leads ++ rest)) j 0
       ∙ get_or_append_left zeros (leads ++ rest) 0 j (omega arith) ∙ upto_at (λ i. 0) l.records j 0 h
 
-  lead_place : (i : ℕ) → i < l.found.source.links → get_or l.leads i 0 ≡ l.lands + l.records + sum (leaving (problem_in ws) m.count) i
-  lead_place i h = upto_kept (λ i. l.lands + l.records + sum (leaving (problem_in ws) m.count) i) l.leads l.found.source.links i p.leads h
+  lead_place : (i : ℕ) → i < l.load.found.source.links → get_or l.load.leads i 0 ≡ l.lands + l.records + sum (leaving (problem_in ws) m.count) i
+  lead_place i h = upto_kept (λ i. l.lands + l.records + sum (leaving (problem_in ws) m.count) i) l.load.leads l.load.found.source.links i p.leads h
 
-  lead_kept : (i q : ℕ) → i < l.found.source.links → q < leaving (problem_in ws) m.count i → get_or new (get_or l.leads i 0 + q) 0 ≡ lead m i q
+  lead_kept : (i q : ℕ) → i < l.load.found.source.links → q < leaving (problem_in ws) m.count i → get_or new (get_or l.load.leads i 0 + q) 0 ≡ lead m i q
   lead_kept i q h k =
       let f = leaving (problem_in ws) m.count in
-      let s = sum_more f l.found.source.links i h in
-      let n = leads_length (problem_in ws) m l.found.source.links in
-      let e : get_or l.leads i 0 + q ≡ length (ws ++ zeros) + (sum f i + q) = (let a = lead_place i h in let b = front_length in omega arith) in
-      ap (λ (v : List ℕ). get_or v (get_or l.leads i 0 + q) 0) half ∙ ap (λ (n : ℕ). get_or ((ws ++ zeros) ++ (leads ++ rest)) n 0) e ∙ get_or-append-add (ws ++ zeros) (leads ++ rest) (sum f i + q) 0
-      ∙ get_or_append_left leads rest 0 (sum f i + q) (omega arith) ∙ leads_at (problem_in ws) m l.found.source.links i q h k
+      let s = sum_more f l.load.found.source.links i h in
+      let n = leads_length (problem_in ws) m l.load.found.source.links in
+      let e : get_or l.load.leads i 0 + q ≡ length (ws ++ zeros) + (sum f i + q) = (let a = lead_place i h in let b = front_length in omega arith) in
+      ap (λ (v : List ℕ). get_or v (get_or l.load.leads i 0 + q) 0) half ∙ ap (λ (n : ℕ). get_or ((ws ++ zeros) ++ (leads ++ rest)) n 0) e ∙ get_or-append-add (ws ++ zeros) (leads ++ rest) (sum f i + q) 0
+      ∙ get_or_append_left leads rest 0 (sum f i + q) (omega arith) ∙ leads_at (problem_in ws) m l.load.found.source.links i q h k
 
   -- the copy of the source answers what the source answers
   same_problem : problem_of r ≡ problem_in ws
@@ -113,7 +113,7 @@ module _ (old ws : List ℕ) (m : Meaning) (l : Loading) (p : Planned (length ol
     | inr h ↦ (let e = le-ltb i (length (problem_in ws).source_links) h in rw e (sym (p.lawful.unknown_link i (omega (arith, source.links)))))
   ]
 
-  follow_is : (i q : ℕ) → lead_copied (problem_in ws) l.leads r i q ≡ m.follow i q
+  follow_is : (i q : ℕ) → lead_copied (problem_in ws) l.load.leads r i q ≡ m.follow i q
   unfolding lead_copied
   follow_is i q = elim (cases_lt i (length (problem_in ws).source_links)) [
     | inl h ↦ (let e = lt-ltb i (length (problem_in ws).source_links) h in
@@ -127,20 +127,20 @@ module _ (old ws : List ℕ) (m : Meaning) (l : Loading) (p : Planned (length ol
     | inr h ↦ (let e = le-ltb i (length (problem_in ws).source_links) h in rw e (sym (p.lawful.leads_unknown i q (omega (arith, source.links)))))
   ]
 
-  same_copy : copy_by (problem_in ws) l.leads r ≡ m
+  same_copy : copy_by (problem_in ws) l.load.leads r ≡ m
   same_copy = λ j. record { kinds = source.kinds j; links = source.links j; ends = λ i. ends_is i j; count = λ k. count_is k j; follow = λ i q. follow_is i q j }
 
-  copied : copy l.leads r ≡ m
-  copied = ap (λ q. copy_by q l.leads r) same_problem ∙ same_copy
+  copied : copy l.load.leads r ≡ m
+  copied = ap (λ q. copy_by q l.load.leads r) same_problem ∙ same_copy
 
-  taken_is : taken_shown l.leads r ≡ taken (problem_in ws) m l.capacity
+  taken_is : taken_shown l.load.leads r ≡ taken (problem_in ws) m l.capacity
   taken_is = λ j. taken (same_problem j) (copied j) l.capacity
 
-  placed : PlacedBy (problem_in ws) l.leads r
+  placed : PlacedBy (problem_in ws) l.load.leads r
   placed i q h k =
       let e = lead_place i (omega (arith, p.sourced.links)) in
       let n = count_is (source_link (problem_in ws) i).from in
-      let s = sum_more (leaving (problem_in ws) m.count) l.found.source.links i (omega (arith, p.sourced.links)) in
+      let s = sum_more (leaving (problem_in ws) m.count) l.load.found.source.links i (omega (arith, p.sourced.links)) in
       inr (omega arith, omega (arith, p.base))
 
   -- the table is at its start
@@ -192,7 +192,7 @@ module _ (old ws : List ℕ) (m : Meaning) (l : Loading) (p : Planned (length ol
     told = p.told;
     problem = problem_kept;
     copied = copied;
-    placed = subst (λ q. PlacedBy q l.leads r) (sym same_problem) placed;
+    placed = subst (λ q. PlacedBy q l.load.leads r) (sym same_problem) placed;
     tidy = tidy;
     starts = starts;
     carries = record {

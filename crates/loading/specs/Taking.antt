@@ -30,18 +30,18 @@ fresh l ws = record { ws = ws; shape = shape_of l; given = 0; front = 0; waits =
 
 -- the tests are passed, and every part has its place
 pub record Planned (work : ℕ) (ws : List ℕ) (m : Meaning) (l : Loading) : Type 0 where
-  pub told : told (Ok l.found) ≡ outline_of (read ws)
-  pub sourced : Sourced ws l.found.source
+  pub told : told (Ok l.load.found) ≡ outline_of (read ws)
+  pub sourced : Sourced ws l.load.found.source
   pub lawful : Lawful m
   pub load : load work ws m ≡ Ok (taken (problem_in ws) m l.capacity)
-  pub kinds : kinds_of l.source ≡ l.found.source.kinds
+  pub kinds : kinds_of l.source ≡ l.load.found.source.kinds
   pub counts : counts_of l.source ≡ upto m.count (kinds_of l.source)
   pub starts : starts_of l.source ≡ upto (λ k. l.lands + sum m.count k) (kinds_of l.source)
-  pub leads : take l.found.source.links l.leads ≡ upto (λ i. l.lands + l.records + sum (leaving (problem_in ws) m.count) i) l.found.source.links
+  pub leads : take l.load.found.source.links l.load.leads ≡ upto (λ i. l.lands + l.records + sum (leaving (problem_in ws) m.count) i) l.load.found.source.links
   pub lands : l.lands ≡ length ws
   pub records : l.records ≡ sum m.count (kinds_of l.source)
   pub lot : l.records < 4096
-  pub base : l.base ≡ l.lands + l.records + sum (leaving (problem_in ws) m.count) l.found.source.links
+  pub base : l.base ≡ l.lands + l.records + sum (leaving (problem_in ws) m.count) l.load.found.source.links
   pub links : l.links ≡ length (problem_in ws).target_links
   pub narrow : l.links ≤ 64
   pub small : l.capacity < 65536
@@ -53,14 +53,14 @@ Plans work ws m (Err e) = load work ws m ≡ Err e
 
 -- an accepted load: the words show what the machine takes, at its start
 pub record TakenIn (old ws : List ℕ) (m : Meaning) (l : Loading) (new : List ℕ) : Type 0 where
-  pub load : load (length old) ws m ≡ Ok (taken_shown l.leads (fresh l new))
-  pub told : told (Ok l.found) ≡ outline_of (read ws)
+  pub load : load (length old) ws m ≡ Ok (taken_shown l.load.leads (fresh l new))
+  pub told : told (Ok l.load.found) ≡ outline_of (read ws)
   pub problem : take l.lands new ≡ ws
-  pub copied : copy l.leads (fresh l new) ≡ m
-  pub placed : Placed l.leads (fresh l new)
+  pub copied : copy l.load.leads (fresh l new) ≡ m
+  pub placed : Placed l.load.leads (fresh l new)
   pub tidy : Tidy (fresh l new)
   pub starts : shown (fresh l new) ≡ start
-  pub carries : Carries (taken_shown l.leads (fresh l new)) (shape_of l)
+  pub carries : Carries (taken_shown l.load.leads (fresh l new)) (shape_of l)
   pub behind : drop l.base new ≡ drop l.base old
 
 -- a refused load changes no word

@@ -8,21 +8,20 @@ use crate::copies::{clear, put_words};
 use crate::offer::Offer;
 use crate::places::{pile, stack};
 use machine::answers::LoadFault;
-use problems::{Found, read_problem};
+use problems::read_problem;
 use registers::register::Register;
 use rows::Source;
+use rows::problem::Load;
 
 mod copies;
 mod offer;
 mod places;
 
-// What a load found and where its parts lie: the problem's outline, the source's kinds, and the place of each source link's first lead.
+// What a load found, and where its parts lie.
 #[derive(Clone, Copy)]
 pub struct Loading {
-    pub found: Found,
+    pub load: Load,
     pub source: Source,
-    // No bounded list, as in `Load`: the outline tells how many there are.
-    pub leads: [usize; 64],
     pub lands: usize,
     pub records: usize,
     pub base: usize,
@@ -68,9 +67,8 @@ fn plan<R: Register>(work: usize, problem: &[u32], source: &R) -> Result<Loading
     };
     let links = found.target.links;
     Ok(Loading {
-        found,
+        load: Load { found, leads },
         source: kinds,
-        leads,
         lands,
         records,
         base,
@@ -92,7 +90,7 @@ pub fn load<R: Register>(
     clear(words, loading.lands, loading.records);
     let offer = Offer {
         problem,
-        schema: loading.found.source,
+        schema: loading.load.found.source,
         source,
     };
     offer.put_links(words, loading.lands + loading.records);

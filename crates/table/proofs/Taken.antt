@@ -40,7 +40,7 @@ module _ (ws : List ℕ) (kinds : ℕ) (counts starts : List ℕ) (none : kinds 
 
 -- an accepted load: no call was made yet
 module _ (old ws : List ℕ) (m : Meaning) (l : Loading) (new : List ℕ) (taken : TakenIn old ws m l new) (size : length new ≡ length old) where
-  reached : Reached (record { found = l.found; leads = l.leads }) (fresh l new)
+  reached : Reached l.load (fresh l new)
   unfolding calls
   reached = record {
     loads = (λ j. load (size j) (taken.problem j) (taken.copied j)) ∙ taken.load;
@@ -51,8 +51,8 @@ module _ (old ws : List ℕ) (m : Meaning) (l : Loading) (new : List ℕ) (taken
     state = taken.starts;
   }
 
-  pub kept : Kept (Some (record { found = l.found; leads = l.leads })) (fresh l new)
+  pub kept : Kept (Some l.load) (fresh l new)
   kept = record { tidy = taken.tidy; reached = of_some (λ (x : Load). ∥ Reached x (fresh l new) ∥₁) _ _ refl ∣ reached ∣₁ }
 
-  pub promise : PromiseOf (Some (record { found = l.found; leads = l.leads })) (fresh l new)
+  pub promise : PromiseOf (Some l.load) (fresh l new)
   promise = promised_by _ _ kept.reached

@@ -9,7 +9,6 @@ use bounded::Bounded;
 use loading::load;
 use machine::answers::{LoadFault, Outcome};
 use registers::register::Register;
-use rows::problem::Load;
 use rows::{Rows, Slot, Source, SourceKind};
 use words::faults::Refusal;
 
@@ -72,11 +71,7 @@ impl Table<'_> {
         rows.given = 0;
         rows.front = 0;
         rows.waits = 0;
-        let leads = taken.leads;
-        self.load = Some(Load {
-            found: taken.found,
-            leads,
-        });
+        self.load = Some(taken.load);
         Ok(())
     }
 
