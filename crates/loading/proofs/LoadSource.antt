@@ -2,6 +2,7 @@
 use Rattle.std.proofs.Common.{◌≡◌, ℕ, ◌+◌, ◌-◌, ◌*◌, ◌/◌, ◌<◌, ◌≤◌, min, Bool, true, false, cond, ltb, List, length, take, Some, None, Ok, Err, Option, Result, sym, refl, ap, ◌∙◌, subst, mul-le-mul_right, div-mul-le_self, arith}
 use native.Mathlib.Nat.{min-le_left, min-le_right}
 use Rattle.std.proofs.lemmas.Bool.{lt-ltb, le-ltb}
+use Rattle.bounded.specs.Listed.{listed}
 use Rattle.words.proofs.Laid.{ok_same, end_told}
 use Rattle.problems.specs.declared.Found.{Found}
 use Rattle.problems.specs.Problem.{Problem, read}
@@ -144,7 +145,7 @@ module _ (work : ℕ) (ws : List ℕ) (m : Meaning) (l : Loading) (t : told (Ok 
       → starts_of l.source ≡ upto (λ k. l.lands + sum m.count k) (kinds_of l.source)
       → next ≡ l.lands + sum m.count (kinds_of l.source) → l.records ≡ next - l.lands → l.records ≤ 4095
       → None ≡ lowest (link_strays (problem_in ws) m) (length (problem_in ws).source_links)
-      → take l.load.found.source.links l.load.leads ≡ upto (λ i. next + sum (leaving (problem_in ws) m.count) i) l.load.found.source.links
+      → listed l.load.leads ≡ upto (λ i. next + sum (leaving (problem_in ws) m.count) i) l.load.found.source.links
       → l.base ≡ next + sum (leaving (problem_in ws) m.count) l.load.found.source.links → l.base ≤ work → l.links ≡ l.load.found.target.links
       → l.capacity ≡ min 65535 ((work - l.base) / (l.links + 3)) → Planned work ws m l
   planned next lawful a lands kinds counts starts n records few o leads base room links capacity =

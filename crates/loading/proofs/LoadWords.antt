@@ -2,6 +2,7 @@
 use Rattle.std.proofs.Common.{◌≡◌, ℕ, ◌+◌, ◌<◌, ◌≤◌, true, List, ◌++◌, length, get_or, take, drop, Some, None, Ok, sym, refl, ap, ◌∙◌, subst, inl, inr, arith, length-append, length-drop}
 use Rattle.std.proofs.lemmas.List.{append_assoc, get_or_append_left, get_or-append-add, take_at, drop_at}
 use Rattle.std.proofs.lemmas.Bool.{lt-ltb, le-ltb, cases_lt, cases_Bool}
+use Rattle.bounded.specs.Listed.{listed}
 use Rattle.registers.specs.Meaning.{Meaning}
 use Rattle.registers.specs.Splices.{spliced}
 use Rattle.registers.specs.Writing.{upto, lead}
@@ -77,16 +78,16 @@ module _ (old ws : List ℕ) (m : Meaning) (l : Loading) (p : Planned (length ol
       ap (λ (v : List ℕ). get_or v (l.lands + j) 0) parts ∙ ap (λ (n : ℕ). get_or (ws ++ (zeros ++ (leads ++ rest))) (n + j) 0) p.lands ∙ get_or-append-add ws (zeros ++ (leads ++ rest)) j 0
       ∙ get_or_append_left zeros (leads ++ rest) 0 j (omega arith) ∙ upto_at (λ i. 0) l.records j 0 h
 
-  lead_place : (i : ℕ) → i < l.load.found.source.links → get_or l.load.leads i 0 ≡ l.lands + l.records + sum (leaving (problem_in ws) m.count) i
-  lead_place i h = upto_kept (λ i. l.lands + l.records + sum (leaving (problem_in ws) m.count) i) l.load.leads l.load.found.source.links i p.leads h
+  lead_place : (i : ℕ) → i < l.load.found.source.links → get_or (listed l.load.leads) i 0 ≡ l.lands + l.records + sum (leaving (problem_in ws) m.count) i
+  lead_place i h = upto_kept (λ i. l.lands + l.records + sum (leaving (problem_in ws) m.count) i) (listed l.load.leads) l.load.found.source.links i p.leads h
 
-  lead_kept : (i q : ℕ) → i < l.load.found.source.links → q < leaving (problem_in ws) m.count i → get_or new (get_or l.load.leads i 0 + q) 0 ≡ lead m i q
+  lead_kept : (i q : ℕ) → i < l.load.found.source.links → q < leaving (problem_in ws) m.count i → get_or new (get_or (listed l.load.leads) i 0 + q) 0 ≡ lead m i q
   lead_kept i q h k =
       let f = leaving (problem_in ws) m.count in
       let s = sum_more f l.load.found.source.links i h in
       let n = leads_length (problem_in ws) m l.load.found.source.links in
-      let e : get_or l.load.leads i 0 + q ≡ length (ws ++ zeros) + (sum f i + q) = (let a = lead_place i h in let b = front_length in omega arith) in
-      ap (λ (v : List ℕ). get_or v (get_or l.load.leads i 0 + q) 0) half ∙ ap (λ (n : ℕ). get_or ((ws ++ zeros) ++ (leads ++ rest)) n 0) e ∙ get_or-append-add (ws ++ zeros) (leads ++ rest) (sum f i + q) 0
+      let e : get_or (listed l.load.leads) i 0 + q ≡ length (ws ++ zeros) + (sum f i + q) = (let a = lead_place i h in let b = front_length in omega arith) in
+      ap (λ (v : List ℕ). get_or v (get_or (listed l.load.leads) i 0 + q) 0) half ∙ ap (λ (n : ℕ). get_or ((ws ++ zeros) ++ (leads ++ rest)) n 0) e ∙ get_or-append-add (ws ++ zeros) (leads ++ rest) (sum f i + q) 0
       ∙ get_or_append_left leads rest 0 (sum f i + q) (omega arith) ∙ leads_at (problem_in ws) m l.load.found.source.links i q h k
 
   -- the copy of the source answers what the source answers
@@ -113,7 +114,7 @@ module _ (old ws : List ℕ) (m : Meaning) (l : Loading) (p : Planned (length ol
     | inr h ↦ (let e = le-ltb i (length (problem_in ws).source_links) h in rw e (sym (p.lawful.unknown_link i (omega (arith, source.links)))))
   ]
 
-  follow_is : (i q : ℕ) → lead_copied (problem_in ws) l.load.leads r i q ≡ m.follow i q
+  follow_is : (i q : ℕ) → lead_copied (problem_in ws) (listed l.load.leads) r i q ≡ m.follow i q
   unfolding lead_copied
   follow_is i q = elim (cases_lt i (length (problem_in ws).source_links)) [
     | inl h ↦ (let e = lt-ltb i (length (problem_in ws).source_links) h in
@@ -127,16 +128,16 @@ module _ (old ws : List ℕ) (m : Meaning) (l : Loading) (p : Planned (length ol
     | inr h ↦ (let e = le-ltb i (length (problem_in ws).source_links) h in rw e (sym (p.lawful.leads_unknown i q (omega (arith, source.links)))))
   ]
 
-  same_copy : copy_by (problem_in ws) l.load.leads r ≡ m
+  same_copy : copy_by (problem_in ws) (listed l.load.leads) r ≡ m
   same_copy = λ j. record { kinds = source.kinds j; links = source.links j; ends = λ i. ends_is i j; count = λ k. count_is k j; follow = λ i q. follow_is i q j }
 
-  copied : copy l.load.leads r ≡ m
-  copied = ap (λ q. copy_by q l.load.leads r) same_problem ∙ same_copy
+  copied : copy (listed l.load.leads) r ≡ m
+  copied = ap (λ q. copy_by q (listed l.load.leads) r) same_problem ∙ same_copy
 
-  taken_is : taken_shown l.load.leads r ≡ taken (problem_in ws) m l.capacity
+  taken_is : taken_shown (listed l.load.leads) r ≡ taken (problem_in ws) m l.capacity
   taken_is = λ j. taken (same_problem j) (copied j) l.capacity
 
-  placed : PlacedBy (problem_in ws) l.load.leads r
+  placed : PlacedBy (problem_in ws) (listed l.load.leads) r
   placed i q h k =
       let e = lead_place i (omega (arith, p.sourced.links)) in
       let n = count_is (source_link (problem_in ws) i).from in
@@ -192,7 +193,7 @@ module _ (old ws : List ℕ) (m : Meaning) (l : Loading) (p : Planned (length ol
     told = p.told;
     problem = problem_kept;
     copied = copied;
-    placed = subst (λ q. PlacedBy q l.load.leads r) (sym same_problem) placed;
+    placed = subst (λ q. PlacedBy q (listed l.load.leads) r) (sym same_problem) placed;
     tidy = tidy;
     starts = starts;
     carries = record {

@@ -1,5 +1,6 @@
 -- What a load answers and leaves in the work words.
 use Rattle.std.specs.Prelude.{◌≡◌, ℕ, ◌+◌, ◌*◌, ◌<◌, ◌≤◌, List, length, take, drop, Ok, Err, Result}
+use Rattle.bounded.specs.Listed.{listed}
 use Rattle.problems.specs.Problem.{read}
 use Rattle.problems.specs.Shown.{told, outline_of}
 use Rattle.registers.specs.Meaning.{Meaning, Lawful}
@@ -37,7 +38,7 @@ pub record Planned (work : ℕ) (ws : List ℕ) (m : Meaning) (l : Loading) : Ty
   pub kinds : kinds_of l.source ≡ l.load.found.source.kinds
   pub counts : counts_of l.source ≡ upto m.count (kinds_of l.source)
   pub starts : starts_of l.source ≡ upto (λ k. l.lands + sum m.count k) (kinds_of l.source)
-  pub leads : take l.load.found.source.links l.load.leads ≡ upto (λ i. l.lands + l.records + sum (leaving (problem_in ws) m.count) i) l.load.found.source.links
+  pub leads : listed l.load.leads ≡ upto (λ i. l.lands + l.records + sum (leaving (problem_in ws) m.count) i) l.load.found.source.links
   pub lands : l.lands ≡ length ws
   pub records : l.records ≡ sum m.count (kinds_of l.source)
   pub lot : l.records < 4096
@@ -53,14 +54,14 @@ Plans work ws m (Err e) = load work ws m ≡ Err e
 
 -- an accepted load: the words show what the machine takes, at its start
 pub record TakenIn (old ws : List ℕ) (m : Meaning) (l : Loading) (new : List ℕ) : Type 0 where
-  pub load : load (length old) ws m ≡ Ok (taken_shown l.load.leads (fresh l new))
+  pub load : load (length old) ws m ≡ Ok (taken_shown (listed l.load.leads) (fresh l new))
   pub told : told (Ok l.load.found) ≡ outline_of (read ws)
   pub problem : take l.lands new ≡ ws
-  pub copied : copy l.load.leads (fresh l new) ≡ m
-  pub placed : Placed l.load.leads (fresh l new)
+  pub copied : copy (listed l.load.leads) (fresh l new) ≡ m
+  pub placed : Placed (listed l.load.leads) (fresh l new)
   pub tidy : Tidy (fresh l new)
   pub starts : shown (fresh l new) ≡ start
-  pub carries : Carries (taken_shown l.load.leads (fresh l new)) (shape_of l)
+  pub carries : Carries (taken_shown (listed l.load.leads) (fresh l new)) (shape_of l)
   pub behind : drop l.base new ≡ drop l.base old
 
 -- a refused load changes no word

@@ -1,5 +1,6 @@
 -- Where the source's links lead, by the words of a table.
-use Rattle.std.proofs.Common.{◌≡◌, ℕ, ◌+◌, ◌<◌, Bool, true, false, ◌&&◌, ltb, List, length, get_or, Some, None, sym, refl, ap, ◌∙◌, arith}
+use Rattle.std.proofs.Common.{◌≡◌, ℕ, ◌+◌, ◌<◌, Bool, true, false, ◌&&◌, ltb, List, length, get_or, Some, None, sym, refl, ap, ◌∙◌, arith, unwrap_or, slice_get, Option}
+use Rattle.std.proofs.lemmas.Option.{unwrap_or-slice_get}
 use Rattle.std.proofs.Math.Bridge.{le_prop}
 use Rattle.std.proofs.Math.Logic.{∥∥₁_elim}
 use Rattle.std.proofs.lemmas.Bool.{lt-ltb, and_parts, ltb-true}
@@ -70,7 +71,14 @@ module _ (L : Loaded) (r : Raw) (f : Found) (leads : List ℕ) (x : Holds L r f 
           let w = (x.led i q is.0 is.1).1 in
           rw z (λ j. Some (record { from = (ends.1 j).0; q = q; to = (ends.1 j).1; led = sym w j }))
 
+-- where the leads of a link begin, as the code asks it
+pub begins : (leads : List ℕ) (i : ℕ) (o : Option ℕ) (v : ℕ) → v ≡ unwrap_or o 0 → o ≡ slice_get leads i → v ≡ get_or leads i 0
+begins leads i o v s g = s ∙ ap (λ o. unwrap_or o 0) g ∙ unwrap_or-slice_get leads i 0
+
 -- the place of the lead, whatever the words hold
 module _ (r : Raw) (f : Found) (leads : List ℕ) (x : ∥ Holding r f leads ∥₁) (i q : ℕ) (e : ℕ × ℕ) (p : Some e ≡ ends_of f.source r.ws i) (b : Bool) (t : b ≡ inside r.shape r.given (landing e.0 q)) (yes : b ≡ true) where
-  pub lead_place : (i < 64) × (get_or leads i 0 + q < length r.ws)
-  lead_place = (∥∥₁_elim x le_prop (λ h. lead_link h.0 r f leads h.1 i q e p b t yes), ∥∥₁_elim x le_prop (λ h. lead_in h.0 r f leads h.1 i q e p b t yes))
+  pub lead_place : (o : Option ℕ) (v : ℕ) → v ≡ unwrap_or o 0 → o ≡ slice_get leads i → v + q < length r.ws
+  lead_place o v s g =
+      let m = begins leads i o v s g in
+      let h = ∥∥₁_elim x le_prop (λ h. lead_in h.0 r f leads h.1 i q e p b t yes) in
+      omega (arith, m, h)

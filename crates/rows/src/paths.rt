@@ -1,6 +1,7 @@
 // The paths of the problem that stands in a table's own words, and the checks along them.
 ghost use Rattle.std.specs.Prelude.{◌≡◌, ◌&&◌, ◌==◌};
 ghost use Rattle.problems.specs.Tokens.{shown_token};
+ghost use Rattle.bounded.specs.Listed.{listed};
 ghost use Rattle.machine.specs.Loaded.{Loaded};
 ghost use Rattle.machine.specs.State.{lives};
 ghost use Rattle.machine.specs.Checking.{rule_effect, link_effect};
@@ -96,8 +97,8 @@ impl Rows<'_> {
 
     // What the check of the source link `i` finds at the record `q`, or why it is refused.
     fn link_found(&self, load: &Load, i: u32, q: u32) -> Result<Effect, Refusal>
-        requires { Holding (raw self.now) load.now.found load.now.leads }
-        ensures { (L : Loaded) → Holds L (raw self.now) load.now.found load.now.leads → shown_found result ≡ answered (link_fault L (view self.now) i q) (link_effect L (view self.now) i q) }
+        requires { Holding (raw self.now) load.now.found (listed load.now.leads) }
+        ensures { (L : Loaded) → Holds L (raw self.now) load.now.found (listed load.now.leads) → shown_found result ≡ answered (link_fault L (view self.now) i q) (link_effect L (view self.now) i q) }
     {
         if self.waits > 0 {
             return Err(Refusal::Waiting);
@@ -110,9 +111,9 @@ impl Rows<'_> {
     // Checks the source link `i` at the record `q`.
     pub fn check_link(&mut self, load: &Load, i: u32, q: u32) -> Result<Outcome, Refusal>
         requires tidy { Tidy (raw self.old) }
-        requires holding { Holding (raw self.old) load.now.found load.now.leads }
-        ensures is { (L : Loaded) → Holds L (raw self.old) load.now.found load.now.leads → result ≡ answered (link_fault L (view self.old) i q) (outcome (link_effect L (view self.old) i q)) }
-        ensures after { (L : Loaded) → Holds L (raw self.old) load.now.found load.now.leads → Becomes (raw self.old) (apply L (check_link i q)) (raw self.new) }
+        requires holding { Holding (raw self.old) load.now.found (listed load.now.leads) }
+        ensures is { (L : Loaded) → Holds L (raw self.old) load.now.found (listed load.now.leads) → result ≡ answered (link_fault L (view self.old) i q) (outcome (link_effect L (view self.old) i q)) }
+        ensures after { (L : Loaded) → Holds L (raw self.old) load.now.found (listed load.now.leads) → Becomes (raw self.old) (apply L (check_link i q)) (raw self.new) }
     {
         let what = self.link_found(load, i, q)?;
         Ok(self.act(what))

@@ -1,11 +1,13 @@
 // Questions to the problem and the source that stand in a table's own words.
 ghost use Rattle.std.specs.Prelude.{◌≡◌, ◌<◌};
+ghost use Rattle.bounded.specs.Listed.{listed};
 ghost use Rattle.machine.specs.Loaded.{Loaded};
 ghost use Rattle.rows.specs.View.{raw};
 ghost use Rattle.rows.specs.Standing.{Stands, Holds, Holding, lead_of};
 
 use crate::paths::Lead;
 use crate::{Rows, Slot};
+use bounded::Bounded;
 use problems::Found;
 use words::reading::fields_at;
 
@@ -14,8 +16,7 @@ use words::reading::fields_at;
 #[derive(Clone, Copy)]
 pub struct Load {
     pub found: Found,
-    // No bounded list: `found.source.links` tells how many there are, and a length of its own would say it twice.
-    pub leads: [usize; 64],
+    pub leads: Bounded<usize, 64>,
 }
 
 impl Rows<'_> {
@@ -47,14 +48,14 @@ impl Rows<'_> {
 
     // The record `q` that the source link `i` leaves, and where it leads it, if there is such a link and record.
     pub fn lead(&self, load: &Load, i: u32, q: u32) -> Option<Lead>
-        requires { ∥ Holding (raw self.now) load.now.found load.now.leads ∥₁ }
-        ensures { (L : Loaded) → Holds L (raw self.now) load.now.found load.now.leads → result ≡ lead_of L i q }
+        requires { ∥ Holding (raw self.now) load.now.found (listed load.now.leads) ∥₁ }
+        ensures { (L : Loaded) → Holds L (raw self.now) load.now.found (listed load.now.leads) → result ≡ lead_of L i q }
     {
         let (from, to) = load.found.source.ends(self.words, i)?;
         if !self.has(Slot::Landing(from, q)) {
             return None;
         }
-        let at = load.leads[i as usize] + q as usize;
+        let at = load.leads.get(i as usize).unwrap_or(0) + q as usize;
         Some(Lead {
             from,
             q,

@@ -2,6 +2,7 @@
 #![tactic(auto)]
 
 ghost use Rattle.std.specs.Prelude.{◌≡◌};
+ghost use Rattle.bounded.specs.Listed.{listed};
 ghost use Rattle.machine.specs.Loaded.{Loaded};
 ghost use Rattle.machine.specs.Shift as shift;
 ghost use Rattle.rows.specs.View.{raw, view};
@@ -30,8 +31,8 @@ pub enum Task {
 // The first of these that there is: to settle; a check of a source link that acts, and of a rule; an empty landing, and an empty cell.
 #[tactic(auto, unfolding(rows::specs::Layout::waiting_of))]
 pub fn next(rows: &Rows, load: &Load) -> Option<Task>
-    requires { Holding (raw rows.now) load.now.found load.now.leads }
-    ensures { (L : Loaded) → Holds L (raw rows.now) load.now.found load.now.leads → shown_task result ≡ shift.next L (view rows.now) }
+    requires { Holding (raw rows.now) load.now.found (listed load.now.leads) }
+    ensures { (L : Loaded) → Holds L (raw rows.now) load.now.found (listed load.now.leads) → shown_task result ≡ shift.next L (view rows.now) }
 {
     if rows.waits > 0 {
         return Some(Task::Settle);

@@ -1,5 +1,6 @@
 // A search by number, lowest first, in what was loaded.
 ghost use Rattle.std.specs.Prelude.{◌≡◌, ℕ, ◌<◌, Option};
+ghost use Rattle.bounded.specs.Listed.{listed};
 ghost use Rattle.machine.specs.Calls.{Op};
 ghost use Rattle.machine.specs.Shift.{lowest};
 ghost use Rattle.rows.specs.View.{raw};
@@ -15,7 +16,7 @@ use rows::problem::Load;
 pub(crate) struct Search<'a> {
     pub(crate) rows: &'a Rows<'a>,
     pub(crate) load: &'a Load,
-    ghost holding: { ∥ Holding (raw rows.now) load.now.found load.now.leads ∥₁ },
+    ghost holding: { ∥ Holding (raw rows.now) load.now.found (listed load.now.leads) ∥₁ },
 }
 
 // What is to be done at the lowest number below `n` where anything is.

@@ -2,6 +2,7 @@
 use Rattle.std.proofs.Common.{◌≡◌, ℕ, ◌<◌, List, [], ◌∷◌, ◌++◌, length, get_or, Some, Ok, Option, Result, sym, refl, ap, ◌∙◌, subst, arith}
 use mathlib.Core.Logic.{∥∥₁_map}
 use Rattle.std.specs.Option.{ForSome}
+use Rattle.bounded.specs.Listed.{listed}
 use Rattle.words.specs.declared.faults.Refusal.{Refusal}
 use Rattle.problems.specs.Problem.{read}
 use Rattle.problems.specs.Shown.{outline_of}
@@ -44,9 +45,9 @@ Kept o r = record { tidy : Tidy r; reached : ForSome o (λ l. ∥ Reached l r �
 -- what is known of a loaded table, and what a call leaves of it
 module _ (t : code.Table) (l : Load) (is : t.load ≡ Some l) where
   abbrev pub taken : Loaded
-  taken = taken_shown l.leads (raw t.rows)
+  taken = taken_shown (listed l.leads) (raw t.rows)
 
-  pub holds : Holds taken (raw t.rows) l.found l.leads
+  pub holds : Holds taken (raw t.rows) l.found (listed l.leads)
   holds = held.holds l (raw t.rows) (t.reached l is) t.tidy.fits
 
   pub first_known : 0 < t.rows.waits → get_or (view t.rows).waiting 0 0 < t.rows.given
@@ -63,26 +64,26 @@ module _ (t : code.Table) (l : Load) (is : t.load ≡ Some l) where
   pub mapped : (k n : ℕ) → ((L : Loaded) → Stands L (raw t.rows) l.found → k < L.source_kinds → L.kind_map k ≡ n) → k < kinds_of t.rows.source → taken.kind_map k ≡ n
   mapped k n f h = f taken holds.stands (omega (arith, h, holds.carries.kinds))
 
-  placed : ∥ Placed l.leads (raw t.rows) ∥₁
+  placed : ∥ Placed (listed l.leads) (raw t.rows) ∥₁
   placed = ∥∥₁_map (t.reached l is) (λ (x : Reached l (raw t.rows)). x.placed)
 
   -- what becomes of the rows by calls
   module _ (b : Raw) (f : State → State) (after : Becomes (raw t.rows) f b) where
-    took_same : taken_shown l.leads b ≡ taken
-    took_same = taken_same l.leads (raw t.rows) b after.same placed
+    took_same : taken_shown (listed l.leads) b ≡ taken
+    took_same = taken_same (listed l.leads) (raw t.rows) b after.same placed
 
     pub origin_same : origin (leads_of t.load) b ≡ origin_of t
     origin_same =
         subst (λ (o : Option Load). origin (leads_of o) b ≡ origin (leads_of o) (raw t.rows)) (sym is)
-        (λ j. (words_same l.leads (raw t.rows) b after.same j, copy_same l.leads (raw t.rows) b after.same placed j))
+        (λ j. (words_same (listed l.leads) (raw t.rows) b after.same j, copy_same (listed l.leads) (raw t.rows) b after.same placed j))
 
     reached : (cs : List Call) → f (view t.rows) ≡ calls taken cs (view t.rows) → Reached l (raw t.rows) → Reached l b
     reached cs by r =
-        let w = words_same l.leads (raw t.rows) b after.same in
+        let w = words_same (listed l.leads) (raw t.rows) b after.same in
         record {
-          loads = (λ j. load (after.same.size j) (w j) (copy_same l.leads (raw t.rows) b after.same placed j)) ∙ r.loads ∙ ap Ok (sym took_same);
+          loads = (λ j. load (after.same.size j) (w j) (copy_same (listed l.leads) (raw t.rows) b after.same placed j)) ∙ r.loads ∙ ap Ok (sym took_same);
           outline = r.outline ∙ ap (λ ws. outline_of (read ws)) (sym w);
-          placed = placed_same l.leads (raw t.rows) b after.same r.placed;
+          placed = placed_same (listed l.leads) (raw t.rows) b after.same r.placed;
           carries = subst (λ L. Carries L b.shape) (sym took_same) (same_carries taken (raw t.rows) b after.same r.carries);
           made = r.made ++ cs;
           state = after.state ∙ by ∙ ap (calls taken cs) r.state ∙ sym (calls_more taken r.made cs start) ∙ ap (λ L. calls L (r.made ++ cs) start) (sym took_same);

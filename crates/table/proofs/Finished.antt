@@ -2,6 +2,7 @@
 use Rattle.std.proofs.Common.{◌≡◌, ℕ, ◌<◌, true, false, cond, List, length, take, is_some, Some, None, Err, Option, Result, sym, refl, ap, ◌∙◌, subst, arith}
 use mathlib.Core.Logic.{∥∥₁_map}
 use Rattle.std.proofs.lemmas.Bool.{lt-ltb, le-ltb}
+use Rattle.bounded.specs.Listed.{listed}
 use Rattle.words.specs.declared.faults.Refusal.{Refusal}
 use Rattle.words.specs.declared.faults.Refusal.TheVariants as refusal
 use Rattle.register_files.specs.Register.{read}
@@ -72,14 +73,14 @@ module _ (t : Table) (l : Load) (is : t.load ≡ Some l) where
 
       pub may_count : Countable (raw t.rows)
       may_count = countable_in (t.reached l is) (raw t.rows) t.tidy
-          (λ (r : Reached l (raw t.rows)). countable (length (raw t.rows).ws) (problem_words (raw t.rows)) (copy l.leads (raw t.rows)) L r.loads r.made (raw t.rows) r.state free t.tidy)
+          (λ (r : Reached l (raw t.rows)). countable (length (raw t.rows).ws) (problem_words (raw t.rows)) (copy (listed l.leads) (raw t.rows)) L r.loads r.made (raw t.rows) r.state free t.tidy)
 
       pub may_finish : Finishes L (raw t.rows) l.found
       may_finish = let h = holds t l is in record {
         stands = h.stands;
         carries = h.carries;
         ready = ∥∥₁_map (t.reached l is) (λ (r : Reached l (raw t.rows)).
-            ready (length (raw t.rows).ws) (problem_words (raw t.rows)) (copy l.leads (raw t.rows)) L r.loads r.made (raw t.rows) r.state free h.carries);
+            ready (length (raw t.rows).ws) (problem_words (raw t.rows)) (copy (listed l.leads) (raw t.rows)) L r.loads r.made (raw t.rows) r.state free h.carries);
       }
 
       module _ (r : Result ℕ Refusal) (out after : List ℕ) (put : ◌≡◌ {A = Result ℕ Refusal × List ℕ} (r, after) (put_words None (finish_words L (view t.rows)) out)) where
@@ -88,7 +89,7 @@ module _ (t : Table) (l : Load) (is : t.load ≡ Some l) where
 
         pub back : IsReadBack t r after
         back = rw is (λ n e. ∥∥₁_map (t.reached l is) (λ (x : Reached l (raw t.rows)).
-            let b = subst (ReadsBack L) (sym x.state) (finish_reads_back (length (raw t.rows).ws) (problem_words (raw t.rows)) (copy l.leads (raw t.rows)) L x.loads x.made
+            let b = subst (ReadsBack L) (sym x.state) (finish_reads_back (length (raw t.rows).ws) (problem_words (raw t.rows)) (copy (listed l.leads) (raw t.rows)) L x.loads x.made
             (subst (λ (s : State). finish_fault L s ≡ None) x.state free)) in
             let w = (put_told None (finish_words L (view t.rows)) out n (sym (ap (λ p. p.0) put) ∙ e)).1 in
             (ap (λ p. read (take n p.1)) put ∙ ap read w ∙ b.accepted, b)))

@@ -6,6 +6,7 @@ use mathlib.Core.Logic.{∥∥₁_elim, ∥∥₁_map}
 use native.Mathlib.Nat.{ℕ_set}
 use native.Mathlib.Bridge.{le_prop}
 use Rattle.std.proofs.lemmas.Bool.{lt-ltb}
+use Rattle.bounded.specs.Listed.{listed}
 use Rattle.words.proofs.Laid.{ok_same}
 use Rattle.problems.specs.Problem.{read}
 use Rattle.problems.specs.Shown.{Seen, outline_of}
@@ -40,7 +41,7 @@ seen_same x y e =
     }
 
 module _ (l : Load) (a : Raw) (reached : ∥ Reached l a ∥₁) where
-  pub carries : Carries (taken_shown l.leads a) a.shape
+  pub carries : Carries (taken_shown (listed l.leads) a) a.shape
   carries = record {
     links = ∥∥₁_elim reached (ℕ_set _ _) (λ r. r.carries.links);
     capacity = ∥∥₁_elim reached (ℕ_set _ _) (λ r. r.carries.capacity);
@@ -49,27 +50,27 @@ module _ (l : Load) (a : Raw) (reached : ∥ Reached l a ∥₁) where
   }
 
   -- the machine loads its copies
-  loaded_as : (x : Result Loaded LoadFault) → load (length a.ws) (problem_words a) (copy l.leads a) ≡ x → load (length a.ws) (problem_words a) (copy l.leads a) ≡ Ok (taken_shown l.leads a)
+  loaded_as : (x : Result Loaded LoadFault) → load (length a.ws) (problem_words a) (copy (listed l.leads) a) ≡ x → load (length a.ws) (problem_words a) (copy (listed l.leads) a) ≡ Ok (taken_shown (listed l.leads) a)
   unfolding problem_in
   loaded_as (Err f) e = absurd (∥∥₁_elim reached ⊥_prop (λ r. let y = r.loads in let z : ◌≡◌ {A = ℕ} 0 1 = cc in omega arith))
   loaded_as (Ok K) e =
-      let k = loads (length a.ws) (problem_words a) (copy l.leads a) K e in
+      let k = loads (length a.ws) (problem_words a) (copy (listed l.leads) a) K e in
       let p : problem_of a ≡ k.problem = ap or_no_problem k.reads in
-      let c : capacity_of (length a.ws) (problem_words a) k.problem (copy l.leads a) ≡ a.shape.capacity =
+      let c : capacity_of (length a.ws) (problem_words a) k.problem (copy (listed l.leads) a) ≡ a.shape.capacity =
       ∥∥₁_elim reached (ℕ_set _ _) (λ r. sym (ap (λ (M : Loaded). M.capacity) k.takes) ∙ ap (λ (M : Loaded). M.capacity) (ok_same (sym r.loads ∙ e))) in
-      e ∙ ap Ok k.takes ∙ (λ j. Ok (taken (sym p j) (copy l.leads a) (c j)))
+      e ∙ ap Ok k.takes ∙ (λ j. Ok (taken (sym p j) (copy (listed l.leads) a) (c j)))
 
-  loaded : load (length a.ws) (problem_words a) (copy l.leads a) ≡ Ok (taken_shown l.leads a)
+  loaded : load (length a.ws) (problem_words a) (copy (listed l.leads) a) ≡ Ok (taken_shown (listed l.leads) a)
   loaded = loaded_as _ refl
 
   reads : read (problem_words a) ≡ Ok (problem_of a)
   unfolding problem_in
-  reads = let k = loads (length a.ws) (problem_words a) (copy l.leads a) (taken_shown l.leads a) loaded in k.reads ∙ ap Ok (sym (ap or_no_problem k.reads))
+  reads = let k = loads (length a.ws) (problem_words a) (copy (listed l.leads) a) (taken_shown (listed l.leads) a) loaded in k.reads ∙ ap Ok (sym (ap or_no_problem k.reads))
 
-  stands : Stands (taken_shown l.leads a) a l.found
+  stands : Stands (taken_shown (listed l.leads) a) a l.found
   stands = record {
     problem = problem_of a;
-    source = copy l.leads a;
+    source = copy (listed l.leads) a;
     reads = reads;
     told = ap Ok (seen_same _ _ (∥∥₁_map reached (λ (r : Reached l a). ok_same (sym (r.outline ∙ ap outline_of reads)))));
     takes = refl;
@@ -77,35 +78,35 @@ module _ (l : Load) (a : Raw) (reached : ∥ Reached l a ∥₁) where
   }
 
   module _ (fits : Fits a) (i q : ℕ) (h : i < length (problem_of a).source_links) (k : q < leaving (problem_of a) (count_copied a) i) where
-    within : Copied a.shape (get_or l.leads i 0 + q) → get_or l.leads i 0 + q < length a.ws
+    within : Copied a.shape (get_or (listed l.leads) i 0 + q) → get_or (listed l.leads) i 0 + q < length a.ws
     within (inl x) = omega (arith, x, fits.below, fits.room)
     within (inr x) = omega (arith, x.1, fits.room)
 
-    leads_in : get_or l.leads i 0 + q < length a.ws
+    leads_in : get_or (listed l.leads) i 0 + q < length a.ws
     leads_in = ∥∥₁_elim reached le_prop (λ r. within (r.placed i q h k))
 
-    leads_to : lead (copy l.leads a) i q ≡ get_or a.ws (get_or l.leads i 0 + q) 0
+    leads_to : lead (copy (listed l.leads) a) i q ≡ get_or a.ws (get_or (listed l.leads) i 0 + q) 0
     unfolding lead_copied
     leads_to =
         let e = lt-ltb i (length (problem_of a).source_links) h in
         let d = lt-ltb q (leaving (problem_of a) (count_copied a) i) k in
         rw (e, d) refl
 
-  pub holds : Fits a → Holds (taken_shown l.leads a) a l.found l.leads
+  pub holds : Fits a → Holds (taken_shown (listed l.leads) a) a l.found (listed l.leads)
   holds fits = record {
     stands = stands;
     carries = carries;
-    accepted = accepted (length a.ws) (problem_words a) (copy l.leads a) (taken_shown l.leads a) loaded;
+    accepted = accepted (length a.ws) (problem_words a) (copy (listed l.leads) a) (taken_shown (listed l.leads) a) loaded;
     led = λ i q h k. (leads_in fits i q h k, leads_to fits i q h k);
   }
 
   -- calls led to its state
-  sound : Reached l a → Sound (taken_shown l.leads a) (shown a)
-  sound r = subst (Sound (taken_shown l.leads a)) (sym r.state)
-      (calls_good (taken_shown l.leads a) (accepted (length a.ws) (problem_words a) (copy l.leads a) (taken_shown l.leads a) loaded) r.made start (start_good (taken_shown l.leads a))).sound
+  sound : Reached l a → Sound (taken_shown (listed l.leads) a) (shown a)
+  sound r = subst (Sound (taken_shown (listed l.leads) a)) (sym r.state)
+      (calls_good (taken_shown (listed l.leads) a) (accepted (length a.ws) (problem_words a) (copy (listed l.leads) a) (taken_shown (listed l.leads) a) loaded) r.made start (start_good (taken_shown (listed l.leads) a))).sound
 
   pub first_known : 0 < a.waits → get_or (shown a).waiting 0 0 < a.given
-  first_known h = ∥∥₁_elim reached le_prop (λ r. first_given (taken_shown l.leads a) a (sound r) h)
+  first_known h = ∥∥₁_elim reached le_prop (λ r. first_given (taken_shown (listed l.leads) a) a (sound r) h)
 
   pub held_live : a.waits ≡ 0 → HeldLive (shown a)
-  held_live quiet t w e = ∥∥₁_elim reached (ℕ_set _ _) (λ r. sound_live (taken_shown l.leads a) (shown a) (sound r) (none_waiting a quiet) t w e)
+  held_live quiet t w e = ∥∥₁_elim reached (ℕ_set _ _) (λ r. sound_live (taken_shown (listed l.leads) a) (shown a) (sound r) (none_waiting a quiet) t w e)

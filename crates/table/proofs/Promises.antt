@@ -2,6 +2,7 @@
 use Rattle.std.proofs.Common.{◌≡◌, length, Option, sym, refl, subst}
 use mathlib.Core.Logic.{∥∥₁_map}
 use Rattle.std.specs.Option.{ForSome}
+use Rattle.bounded.specs.Listed.{listed}
 use Rattle.machine.specs.Promise.{Promised}
 use Rattle.machine.proofs.Promised.{promise}
 use Rattle.rows.specs.declared.problem.Load.{Load}
@@ -15,8 +16,8 @@ use Rattle.table.specs.declared.table.Table.{Table}
 
 pub promised_by : (o : Option Load) (r : Raw) → ForSome o (λ l. ∥ Reached l r ∥₁) → PromiseOf o r
 promised_by o r reached l is = ∥∥₁_map (reached l is) (λ (x : Reached l r).
-    subst (Promised (origin l.leads r).0 (origin l.leads r).1 (taken_shown l.leads r)) (sym x.state)
-    (promise (length r.ws) (origin l.leads r).0 (origin l.leads r).1 (taken_shown l.leads r) x.loads x.made))
+    subst (Promised (origin (listed l.leads) r).0 (origin (listed l.leads) r).1 (taken_shown (listed l.leads) r)) (sym x.state)
+    (promise (length r.ws) (origin (listed l.leads) r).0 (origin (listed l.leads) r).1 (taken_shown (listed l.leads) r) x.loads x.made))
 
 pub promised : (t : Table) → KeepsPromise t
 promised t = promised_by t.load (raw t.rows) t.reached

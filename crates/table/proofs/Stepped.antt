@@ -1,5 +1,6 @@
 -- A step by what it plans to do.
 use Rattle.std.proofs.Common.{◌≡◌, ℕ, ◌+◌, ◌-◌, Some, Ok, Err, Option, sym, refl, ap, ◌∙◌, add-one, sub-one}
+use Rattle.bounded.specs.Listed.{listed}
 use Rattle.machine.specs.declared.answers.Ending.{Ending}
 use Rattle.machine.specs.Loaded.{Loaded}
 use Rattle.machine.specs.State.{State}
@@ -38,6 +39,6 @@ gone left done (opened work) o h u e = cc
 gone left done (holding work L s) o h u e = rw e (goes_as work L s left done (plan L s (next L s) left) o h)
 
 -- the plan of a loaded table, by the task that is next
-pub plan_by : (t : code.Table) (l : Load) (is : t.load ≡ Some l) (left : ℕ) (o : Option Task) → ((L : Loaded) → Holds L (raw t.rows) l.found l.leads → shown_task o ≡ next L (view t.rows)) →
+pub plan_by : (t : code.Table) (l : Load) (is : t.load ≡ Some l) (left : ℕ) (o : Option Task) → ((L : Loaded) → Holds L (raw t.rows) l.found (listed l.leads) → shown_task o ≡ next L (view t.rows)) →
     planned (plan (taken t l is) (view t.rows) (shown_task o) left) ≡ plan_of left (view_of t)
 plan_by t l is left o what = ap (λ x. planned (plan (taken t l is) (view t.rows) x left)) (what _ (holds t l is)) ∙ sym (ap (plan_of left) (view_is t l is))

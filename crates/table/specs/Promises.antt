@@ -1,6 +1,7 @@
 -- The whole promise, of a table of the code.
 use Rattle.std.specs.Prelude.{◌≡◌, ℕ, List, take, Ok, Option, Result}
 use Rattle.std.specs.Option.{ForSome}
+use Rattle.bounded.specs.Listed.{listed}
 use Rattle.words.specs.declared.faults.Refusal.{Refusal}
 use Rattle.register_files.specs.Register.{read}
 use Rattle.machine.specs.Promise.{Promised}
@@ -17,7 +18,7 @@ use Rattle.table.specs.declared.table.Table.{Table}
 -- finish writes the words of the numbering, the same for every other table of the same problem words and source meaning. All of it is about the very
 -- problem words and source meaning that the table holds.
 abbrev pub PromiseOf : Option Load → Raw → Type 0
-PromiseOf load r = ForSome load (λ l. ∥ Promised (origin l.leads r).0 (origin l.leads r).1 (taken_shown l.leads r) (shown r) ∥₁)
+PromiseOf load r = ForSome load (λ l. ∥ Promised (origin (listed l.leads) r).0 (origin (listed l.leads) r).1 (taken_shown (listed l.leads) r) (shown r) ∥₁)
 
 abbrev pub KeepsPromise : Table → Type 0
 KeepsPromise t = PromiseOf t.load (raw t.rows)

@@ -1,6 +1,7 @@
 -- The table of the code, as a table of the machine.
 use Rattle.std.specs.Prelude.{◌≡◌, ℕ, List, [], length, Some, None, Ok, Err, Option, Result}
 use Rattle.std.specs.Borrow.{Bor}
+use Rattle.bounded.specs.Listed.{listed}
 use Rattle.words.specs.declared.faults.Refusal.{Refusal}
 use Rattle.words.specs.declared.faults.Refusal.TheVariants as refusal
 use Rattle.machine.specs.Loaded.{Loaded}
@@ -17,11 +18,11 @@ use Rattle.table.specs.Reached.{problem_words}
 -- where the leads begin; nowhere where nothing was loaded
 abbrev pub leads_of : Option Load → List ℕ
 leads_of None = []
-leads_of (Some l) = l.leads
+leads_of (Some l) = (listed l.leads)
 
 abbrev pub seen : Option Load → Raw → machine.Table
 seen None r = machine.opened (length r.ws)
-seen (Some l) r = machine.holding (length r.ws) (taken_shown l.leads r) (shown r)
+seen (Some l) r = machine.holding (length r.ws) (taken_shown (listed l.leads) r) (shown r)
 
 abbrev pub view_of : Table → machine.Table
 view_of t = seen t.load (raw t.rows)

@@ -1,5 +1,6 @@
 use Rattle.std.proofs.Common.{refl}
 use Rattle.machine.specs.Calls.{check_link, apply, link_fault}
+use Rattle.bounded.specs.Listed.{listed}
 use Rattle.rows.specs.View.{raw, view}
 use Rattle.rows.proofs.Faults.{refused_kept}
 use Rattle.rows.proofs.Checks.{link_acts}
@@ -9,7 +10,7 @@ pub act-requires-clause-named : goal.act-requires-clause-named
 act-requires-clause-named c =
     let L = c.requires.holding.0 in
     let x = c.requires.holding.1 in
-    link_acts L (raw c.args.self.now) c.requires.tidy c.args.load.now.found c.args.load.now.leads x c.args.i c.args.q _ (c.in_ok-what.ensures L x)
+    link_acts L (raw c.args.self.now) c.requires.tidy c.args.load.now.found (listed c.args.load.now.leads) x c.args.i c.args.q _ (c.in_ok-what.ensures L x)
 
 pub returns-in_err-what-clause-after : goal.returns-in_err-what-clause-after
 returns-in_err-what-clause-after c L x =

@@ -1,5 +1,6 @@
 use Rattle.std.proofs.Common.{◌≡◌, Err, sym, ap, ◌∙◌, rules}
 use Rattle.words.specs.declared.faults.Refusal.TheVariants as refusal
+use Rattle.bounded.specs.Listed.{listed}
 use Rattle.rows.specs.View.{raw}
 use Rattle.rows.specs.Standing.{shown_found}
 use Rattle.rows.proofs.Checks.{link_waiting, link_lost, link_found}
