@@ -49,9 +49,6 @@ module _ (f : ℕ → ℕ) (n place : ℕ) (sizes : List ℕ) (e : sizes ≡ upt
   pub stacked : upto (λ i. place + sum (slice_index sizes) i) (length sizes) ≡ upto (λ i. place + sum f i) n
   stacked = ap (upto (λ i. place + sum (slice_index sizes) i)) sized ∙ upto_alike _ _ n (λ i h. summed i (omega arith))
 
-  pub piled : (starts : List ℕ) → take (length sizes) starts ≡ upto (λ i. place + sum (slice_index sizes) i) (length sizes) → take n starts ≡ upto (λ i. place + sum f i) n
-  piled starts p = ap (λ k. take k starts) (sym sized) ∙ p ∙ stacked
-
   pub piled_behind : (next : ℕ) → next ≡ place + sum (slice_index sizes) (length sizes) → next ≡ place + sum f n
   piled_behind next q = q ∙ ap (λ k. place + sum (slice_index sizes) k) sized ∙ summed n (omega arith)
 
@@ -70,6 +67,3 @@ module _ (f : ℕ → ℕ) where
 
   pub take_upto : (xs : List ℕ) (i v : ℕ) → i < length xs → v ≡ f i → take i xs ≡ upto f i → take (i + 1) (set xs i v) ≡ upto f (i + 1)
   take_upto xs i v h p q = take_more_set xs i v h ∙ ap (λ ys. ys ++ v ∷ []) q ∙ ap (λ w. upto f i ++ w ∷ []) p ∙ sym (upto_next i)
-
-  pub upto_kept : (xs : List ℕ) (n i : ℕ) → take n xs ≡ upto f n → i < n → get_or xs i 0 ≡ f i
-  upto_kept xs n i e h = sym (get_or-take n xs i 0 h) ∙ ap (λ ys. get_or ys i 0) e ∙ upto_at f n i 0 h

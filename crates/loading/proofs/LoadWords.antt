@@ -20,7 +20,7 @@ use Rattle.loading.specs.Taking.{fresh, Planned, TakenIn}
 use Rattle.loading.specs.declared.Loading.{Loading}
 use Rattle.rows.proofs.Places.{sum_more, inside_true}
 use Rattle.rows.proofs.Shown.{same_state, held_in, held_out}
-use Rattle.loading.proofs.LoadLists.{sum_same, upto_kept}
+use Rattle.loading.proofs.LoadLists.{sum_same}
 use Rattle.loading.proofs.LoadCopies.{leads_length, leads_at}
 
 module _ (old ws : List ℕ) (m : Meaning) (l : Loading) (p : Planned (length old) ws m l) (mid low new : List ℕ)
@@ -79,7 +79,7 @@ module _ (old ws : List ℕ) (m : Meaning) (l : Loading) (p : Planned (length ol
       ∙ get_or_append_left zeros (leads ++ rest) 0 j (omega arith) ∙ upto_at (λ i. 0) l.records j 0 h
 
   lead_place : (i : ℕ) → i < l.load.found.source.links → get_or (listed l.load.leads) i 0 ≡ l.lands + l.records + sum (leaving (problem_in ws) m.count) i
-  lead_place i h = upto_kept (λ i. l.lands + l.records + sum (leaving (problem_in ws) m.count) i) (listed l.load.leads) l.load.found.source.links i p.leads h
+  lead_place i h = ap (λ (ks : List ℕ). get_or ks i 0) p.leads ∙ upto_at (λ i. l.lands + l.records + sum (leaving (problem_in ws) m.count) i) l.load.found.source.links i 0 h
 
   lead_kept : (i q : ℕ) → i < l.load.found.source.links → q < leaving (problem_in ws) m.count i → get_or new (get_or (listed l.load.leads) i 0 + q) 0 ≡ lead m i q
   lead_kept i q h k =

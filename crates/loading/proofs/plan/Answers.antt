@@ -2,7 +2,7 @@ use Rattle.std.proofs.Common.{◌≡◌, length, sym, ◌+◌, ◌/◌, ◌≤�
 use Rattle.machine.specs.Loading.{sum}
 use Rattle.registers.specs.Writing.{upto}
 use Rattle.loading.specs.LoadedWords.{problem_in, leaving}
-use Rattle.loading.proofs.LoadLists.{sized, stacked, piled, piled_behind, piled_size}
+use Rattle.loading.proofs.LoadLists.{sized, stacked, piled_behind, piled_size}
 use Rattle.loading.proofs.LoadSource.{sourced, refused_shape, refused_large, refused_leads, refused_memory, planned}
 use Rattle.loading.proofs.plan.Goals as goal
 
@@ -38,5 +38,5 @@ returns g c =
     (c.stack-next.ensures.counts ∙ c.counts-counts.ensures ∙ ap (upto m.count) (sym k))
     (c.stack-next.ensures.starts ∙ stacked _ _ _ _ c.counts-counts.ensures ∙ ap (upto (λ i. length c.args.problem.now + sum m.count i)) (sym k))
     (piled_behind _ _ _ _ c.counts-counts.ensures _ c.stack-next.ensures.behind ∙ ap (λ n. length c.args.problem.now + sum m.count n) (sym k)) refl c.if-records-gt4095.false c.in_default.ensures
-    (piled _ _ _ _ c.leavings.ensures _ c.pile-base.ensures.starts) (piled_behind _ _ _ _ c.leavings.ensures _ c.pile-base.ensures.behind) c.in-Some-checked_sub.ensures.0 refl
+    (c.pile-base.ensures.starts ∙ stacked _ _ _ _ c.leavings.ensures) (piled_behind _ _ _ _ c.leavings.ensures _ c.pile-base.ensures.behind) c.in-Some-checked_sub.ensures.0 refl
     (c.entries.ensures ∙ ap (λ r. min 65535 (r / (c.in_ok-found.found.target.links + 3))) c.in-Some-checked_sub.ensures.1)

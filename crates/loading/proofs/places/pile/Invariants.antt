@@ -1,12 +1,13 @@
-use Rattle.std.proofs.Common.{◌≡◌, ◌+◌, ◌*◌, ◌≤◌, length, take, slice_index}
+use Rattle.std.proofs.Common.{◌≡◌, ◌+◌, ◌*◌, ◌≤◌, length, slice_index}
+use Rattle.bounded.specs.Listed.{listed}
 use Rattle.registers.specs.Writing.{upto}
 use Rattle.machine.specs.Loading.{sum}
 use Rattle.loading.proofs.places.pile.Given as goal
 
-abbrev pub invariant-loop-i : goal.invariant-loop-i
-invariant-loop-i g l = record {
-  whole : length l.starts ≡ g.row.N;
-  starts : take l.i l.starts ≡ upto (λ k. l.place + sum (slice_index l.sizes) k) l.i;
-  behind : l.next ≡ l.place + sum (slice_index l.sizes) l.i;
-  low : l.next ≤ l.place + l.i * 4294967296;
+abbrev pub invariant-loop-size : goal.invariant-loop-size
+invariant-loop-size l = record {
+  size : length (listed l.starts) ≡ l.size-index;
+  starts : listed l.starts ≡ upto (λ k. l.place + sum (slice_index l.sizes) k) l.size-index;
+  behind : l.next ≡ l.place + sum (slice_index l.sizes) l.size-index;
+  low : l.next ≤ l.place + l.size-index * 4294967296;
 }
