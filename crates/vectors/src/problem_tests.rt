@@ -1,5 +1,5 @@
 // What the reader of problems takes and refuses, and the tokens of what it took.
-use crate::files::{Reader, Run, Trial, built, push_runs};
+use crate::files::{Reader, Run, built, push_runs};
 use crate::problem_tables::{
     FORMAT, FORMAT_EDITS, GGG, LARGEST_MAPS, LARGEST_RULES, LIMITS, MAP_EDITS, MAPS, REFUSED,
     RULE_EDITS, RULES, SCHEMA_EDITS, ShownMap, ShownRule, TAKEN, Taken, WHOLE,
@@ -10,17 +10,9 @@ use std::process::Abort;
 use std::test::Fail;
 use words::tokens::Token;
 
-fn on_trial(rt: &HostRuntime) -> Trial<'_, HostRuntime> {
-    Trial {
-        rt,
-        heap: rt.alloc(),
-        reader: Reader::Problem,
-    }
-}
-
 #[test]
 fn refuses_small_problems(rt: HostRuntime) {
-    let trial = on_trial(&rt);
+    let trial = Reader::Problem.on_trial(&rt);
     trial.refuses_worded(&FORMAT);
     trial.refuses_each(&REFUSED);
     trial.misses_each(&GGG);
@@ -29,7 +21,7 @@ fn refuses_small_problems(rt: HostRuntime) {
 
 #[test]
 fn refuses_edited_problems(rt: HostRuntime) -> Result<(), Fail> {
-    let trial = on_trial(&rt);
+    let trial = Reader::Problem.on_trial(&rt);
     trial.refuses_edits(&GGG, &FORMAT_EDITS)?;
     trial.refuses_edits(&WHOLE, &SCHEMA_EDITS)?;
     trial.refuses_edits(&WHOLE, &RULE_EDITS)?;
@@ -40,7 +32,7 @@ fn refuses_edited_problems(rt: HostRuntime) -> Result<(), Fail> {
 
 #[test]
 fn refuses_problems_at_limits(rt: HostRuntime) -> Result<(), Fail> {
-    on_trial(&rt).refuses_runs(&LIMITS)
+    Reader::Problem.on_trial(&rt).refuses_runs(&LIMITS)
 }
 
 fn outline(words: &[u32]) -> Option<[usize; 8]> {

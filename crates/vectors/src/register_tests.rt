@@ -1,22 +1,14 @@
 // What the reader of register files takes and refuses.
-use crate::files::{Reader, Run, Trial, built, push_runs};
+use crate::files::{Reader, Run, built, push_runs};
 use crate::register_tables::{EDITS, FORMAT, LIMITS, REFUSED, TAKEN, Taken, WHOLE};
 use register_files::read_register;
 use std::alloc::{AllocError, Global};
 use std::process::Abort;
 use std::test::Fail;
 
-fn on_trial(rt: &HostRuntime) -> Trial<'_, HostRuntime> {
-    Trial {
-        rt,
-        heap: rt.alloc(),
-        reader: Reader::Register,
-    }
-}
-
 #[test]
 fn refuses_small_files(rt: HostRuntime) {
-    let trial = on_trial(&rt);
+    let trial = Reader::Register.on_trial(&rt);
     trial.refuses_worded(&FORMAT);
     trial.refuses_each(&REFUSED);
     trial.misses_each(&WHOLE);
@@ -24,7 +16,7 @@ fn refuses_small_files(rt: HostRuntime) {
 
 #[test]
 fn refuses_edited_files(rt: HostRuntime) -> Result<(), Fail> {
-    let trial = on_trial(&rt);
+    let trial = Reader::Register.on_trial(&rt);
     trial.refuses_edits(&WHOLE, &EDITS)?;
     trial.refuses_tags(&WHOLE)?;
     trial.refuses_bits(&WHOLE)
@@ -32,7 +24,7 @@ fn refuses_edited_files(rt: HostRuntime) -> Result<(), Fail> {
 
 #[test]
 fn refuses_at_limits(rt: HostRuntime) -> Result<(), Fail> {
-    on_trial(&rt).refuses_runs(&LIMITS)
+    Reader::Register.on_trial(&rt).refuses_runs(&LIMITS)
 }
 
 // The kinds of a file, its links, and the place of the last; none if it is refused.
