@@ -2,6 +2,7 @@
 use problems::read_problem;
 use register_files::read_register;
 use std::alloc::{AllocError, Global};
+use std::fmt::Debug;
 use std::process::Abort;
 use std::test::Fail;
 use words::faults::{Fault, Refusal};
@@ -51,6 +52,10 @@ pub struct Run(pub u32, pub u32, pub u32);
 // A file of runs that is refused, why, and at which place.
 #[derive(Clone, Copy)]
 pub struct RunsRefused(pub &'static [Run], pub Refusal, pub usize);
+
+// A file of runs that is taken, and its outline.
+#[derive(Clone, Copy)]
+pub struct Taken<T>(pub &'static [Run], pub T);
 
 // Adds the words of a run.
 fn push_run(words: &mut Vec<u32>, run: Run) -> Result<(), AllocError> {
@@ -102,6 +107,21 @@ fn lowest_free(word: u32) -> u32 {
         7 | 12 => 28,
         _ => 16,
     }
+}
+
+pub(crate) fn takes_each<T: Copy + PartialEq + Debug, F: Fn(&[u32]) -> Option<T>>(
+    rt: &impl Abort,
+    heap: Global,
+    table: &[Taken<T>],
+    outline: F,
+) -> Result<(), Fail>
+    requires { F.IsAlwaysCallable outline }
+{
+    for (row, case) in table.iter().enumerate() {
+        let words = built(heap, case.0)?;
+        assert_eq!(rt; (row, outline(&words)), (row, Some(case.1)));
+    }
+    Ok(())
 }
 
 // A reader on trial: what it must refuse.

@@ -1,8 +1,8 @@
 // What the reader of problems takes and refuses, and the tokens of what it took.
-use crate::files::{Reader, Run, built, push_runs};
+use crate::files::{Reader, Run, built, push_runs, takes_each};
 use crate::problem_tables::{
     FORMAT, FORMAT_EDITS, GGG, LARGEST_MAPS, LARGEST_RULES, LIMITS, MAP_EDITS, MAPS, REFUSED,
-    RULE_EDITS, RULES, SCHEMA_EDITS, ShownMap, ShownRule, TAKEN, Taken, WHOLE,
+    RULE_EDITS, RULES, SCHEMA_EDITS, ShownMap, ShownRule, TAKEN, WHOLE,
 };
 use problems::{Found, link_map_at, read_problem, rule_at};
 use std::alloc::{AllocError, Global};
@@ -51,14 +51,6 @@ fn outline(words: &[u32]) -> Option<[usize; 8]> {
     ])
 }
 
-fn takes_each(rt: &impl Abort, heap: Global, table: &[Taken]) -> Result<(), Fail> {
-    for (row, case) in table.iter().enumerate() {
-        let words = built(heap, case.0)?;
-        assert_eq!(rt; (row, outline(&words)), (row, Some(case.1)));
-    }
-    Ok(())
-}
-
 // Adds 64 link maps of 64 steps.
 fn push_maps(words: &mut Vec<u32>) -> Result<(), AllocError> {
     for link in 0..64u32 {
@@ -99,7 +91,7 @@ fn largest(heap: Global) -> Result<Vec<u32>, AllocError> {
 
 #[test]
 fn takes_problems(rt: HostRuntime) -> Result<(), Fail> {
-    takes_each(&rt, rt.alloc(), &TAKEN)?;
+    takes_each(&rt, rt.alloc(), &TAKEN, outline)?;
     let words = largest(rt.alloc())?;
     assert_eq!(rt; words.len(), 20835);
     assert_eq!(rt;

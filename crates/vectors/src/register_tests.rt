@@ -1,6 +1,6 @@
 // What the reader of register files takes and refuses.
-use crate::files::{Reader, Run, built, push_runs};
-use crate::register_tables::{EDITS, FORMAT, LIMITS, REFUSED, TAKEN, Taken, WHOLE};
+use crate::files::{Reader, Run, built, push_runs, takes_each};
+use crate::register_tables::{EDITS, FORMAT, LIMITS, REFUSED, TAKEN, WHOLE};
 use register_files::read_register;
 use std::alloc::{AllocError, Global};
 use std::process::Abort;
@@ -34,17 +34,6 @@ fn outline(words: &[u32]) -> Option<(u32, usize, usize)> {
     Some((found.kinds, found.links.len(), place))
 }
 
-fn takes_each(rt: &impl Abort, heap: Global, table: &[Taken]) -> Result<(), Fail> {
-    for (row, case) in table.iter().enumerate() {
-        let words = built(heap, case.0)?;
-        assert_eq!(rt;
-            (row, outline(&words)),
-            (row, Some((case.1, case.2, case.3)))
-        );
-    }
-    Ok(())
-}
-
 // Adds landings of 4,095 source records for each of 32 source kinds.
 fn push_landings(words: &mut Vec<u32>) -> Result<(), AllocError> {
     for source in 0..32u32 {
@@ -75,7 +64,7 @@ fn largest(heap: Global) -> Result<Vec<u32>, AllocError> {
 
 #[test]
 fn takes_files(rt: HostRuntime) -> Result<(), Fail> {
-    takes_each(&rt, rt.alloc(), &TAKEN)?;
+    takes_each(&rt, rt.alloc(), &TAKEN, outline)?;
     let words = largest(rt.alloc())?;
     assert_eq!(rt; words.len(), 4325410);
     assert_eq!(rt; outline(&words), Some((32, 64, 33 + 63 * 65536)));
