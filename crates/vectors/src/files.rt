@@ -109,22 +109,7 @@ fn lowest_free(word: u32) -> u32 {
     }
 }
 
-pub(crate) fn takes_each<T: Copy + PartialEq + Debug, F: Fn(&[u32]) -> Option<T>>(
-    rt: &impl Abort,
-    heap: Global,
-    table: &[Taken<T>],
-    outline: F,
-) -> Result<(), Fail>
-    requires { F.IsAlwaysCallable outline }
-{
-    for (row, case) in table.iter().enumerate() {
-        let words = built(heap, case.0)?;
-        assert_eq!(rt; (row, outline(&words)), (row, Some(case.1)));
-    }
-    Ok(())
-}
-
-// A reader on trial: what it must refuse.
+// A reader on trial: what it must take, and what it must refuse.
 #[derive(Drop)]
 pub(crate) struct Trial<'a, A> {
     rt: &'a A,
@@ -133,6 +118,20 @@ pub(crate) struct Trial<'a, A> {
 }
 
 impl<A: Abort> Trial<'_, A> {
+    pub(crate) fn takes_each<T: Copy + PartialEq + Debug, F: Fn(&[u32]) -> Option<T>>(
+        &self,
+        table: &[Taken<T>],
+        outline: F,
+    ) -> Result<(), Fail>
+        requires { F.IsAlwaysCallable outline }
+    {
+        for (row, case) in table.iter().enumerate() {
+            let words = built(self.heap, case.0)?;
+            assert_eq!(self.rt; (row, outline(&words)), (row, Some(case.1)));
+        }
+        Ok(())
+    }
+
     fn refuses(&self, row: usize, words: &[u32], refusal: Refusal, place: usize) {
         assert_eq!(self.rt;
             (row, self.reader.reads(words)),

@@ -1,5 +1,5 @@
 // What the reader of problems takes and refuses, and the tokens of what it took.
-use crate::files::{Reader, Run, built, push_runs, takes_each};
+use crate::files::{Reader, Run, built, push_runs};
 use crate::problem_tables::{
     FORMAT, FORMAT_EDITS, GGG, LARGEST_MAPS, LARGEST_RULES, LIMITS, MAP_EDITS, MAPS, REFUSED,
     RULE_EDITS, RULES, SCHEMA_EDITS, ShownMap, ShownRule, TAKEN, WHOLE,
@@ -91,7 +91,7 @@ fn largest(heap: Global) -> Result<Vec<u32>, AllocError> {
 
 #[test]
 fn takes_problems(rt: HostRuntime) -> Result<(), Fail> {
-    takes_each(&rt, rt.alloc(), &TAKEN, outline)?;
+    Reader::Problem.on_trial(&rt).takes_each(&TAKEN, outline)?;
     let words = largest(rt.alloc())?;
     assert_eq!(rt; words.len(), 20835);
     assert_eq!(rt;

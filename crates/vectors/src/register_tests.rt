@@ -1,9 +1,8 @@
 // What the reader of register files takes and refuses.
-use crate::files::{Reader, Run, built, push_runs, takes_each};
+use crate::files::{Reader, Run, built, push_runs};
 use crate::register_tables::{EDITS, FORMAT, LIMITS, REFUSED, TAKEN, WHOLE};
 use register_files::read_register;
 use std::alloc::{AllocError, Global};
-use std::process::Abort;
 use std::test::Fail;
 
 #[test]
@@ -64,7 +63,7 @@ fn largest(heap: Global) -> Result<Vec<u32>, AllocError> {
 
 #[test]
 fn takes_files(rt: HostRuntime) -> Result<(), Fail> {
-    takes_each(&rt, rt.alloc(), &TAKEN, outline)?;
+    Reader::Register.on_trial(&rt).takes_each(&TAKEN, outline)?;
     let words = largest(rt.alloc())?;
     assert_eq!(rt; words.len(), 4325410);
     assert_eq!(rt; outline(&words), Some((32, 64, 33 + 63 * 65536)));
