@@ -92,7 +92,7 @@ fn edited(heap: Global, words: &[u32], at: usize, word: u32) -> Result<Vec<u32>,
     Ok(copy)
 }
 
-// The numbers here are a second source of the format, against which the readers are tested.
+// The next two keep bare numbers: they are a second source of the format, against which the readers are tested.
 
 // Whether a word of that tag may stand where a run of other words can end.
 fn may_follow(tag: u32) -> bool {
