@@ -13,3 +13,7 @@ mod load_tests;
 mod shift_tables;
 #[cfg(test)]
 mod shift_tests;
+
+// Every word that a call may not change holds this before it.
+#[cfg(test)]
+const OLD: u32 = 0xF1234567;

@@ -2,29 +2,11 @@
 use vectors::loose::Loose;
 use words::faults::{Fault, Refusal};
 
-// So many kinds of so many records, links, their from and to kinds, and the record that each leads to.
-#[derive(Clone, Copy)]
-pub struct Source(pub u32, pub u32, pub u32, pub u32, pub u32, pub u32);
-
-impl From<Source> for Loose {
-    fn from(source: Source) -> Loose {
-        let Source(kinds, records, links, from, to, led) = source;
-        Loose {
-            kinds,
-            records,
-            links,
-            from,
-            to,
-            led,
-        }
-    }
-}
-
 // The problem words, the source, the number of work words, and the capacity or the fault.
 #[derive(Clone, Copy)]
 pub struct Load(
     pub &'static [u32],
-    pub Source,
+    pub Loose,
     pub usize,
     pub Result<u32, Fault>,
 );
@@ -53,11 +35,55 @@ pub const SECOND_STRAYS: [u32; 11] = [
     0xB0000000, 0xB0000001, 0x7000000A,
 ];
 
+const NONE: Loose = Loose {
+    kinds: 0,
+    records: 0,
+    links: 0,
+    from: 0,
+    to: 0,
+    led: 0,
+};
+
+// One record.
+const ONE: Loose = Loose {
+    kinds: 1,
+    records: 1,
+    ..NONE
+};
+
+// Six records, and a link that leads each to the third.
+const SIX: Loose = Loose {
+    kinds: 1,
+    records: 6,
+    links: 1,
+    led: 2,
+    ..NONE
+};
+
+// Two kinds of two records, and a link from the first to the second.
+const TWO: Loose = Loose {
+    kinds: 2,
+    records: 2,
+    links: 1,
+    from: 0,
+    to: 1,
+    led: 1,
+};
+
+// Two records, and two links that lead each to the second.
+const TWICE: Loose = Loose {
+    kinds: 1,
+    records: 2,
+    links: 2,
+    led: 1,
+    ..NONE
+};
+
 pub const LOADS: [Load; 44] = [
     // needed words and capacity
     Load(
         &FREE,
-        Source(1, 1, 0, 0, 0, 0),
+        ONE,
         0,
         Err(Fault {
             refusal: Refusal::Memory,
@@ -66,76 +92,87 @@ pub const LOADS: [Load; 44] = [
     ),
     Load(
         &FREE,
-        Source(1, 1, 0, 0, 0, 0),
+        ONE,
         5,
         Err(Fault {
             refusal: Refusal::Memory,
             place: 0,
         }),
     ),
-    Load(&FREE, Source(1, 1, 0, 0, 0, 0), 6, Ok(0)),
-    Load(&FREE, Source(1, 1, 0, 0, 0, 0), 9, Ok(0)),
-    Load(&FREE, Source(1, 1, 0, 0, 0, 0), 10, Ok(1)),
-    Load(&FREE, Source(1, 1, 0, 0, 0, 0), 13, Ok(1)),
-    Load(&FREE, Source(1, 1, 0, 0, 0, 0), 14, Ok(2)),
+    Load(&FREE, ONE, 6, Ok(0)),
+    Load(&FREE, ONE, 9, Ok(0)),
+    Load(&FREE, ONE, 10, Ok(1)),
+    Load(&FREE, ONE, 13, Ok(1)),
+    Load(&FREE, ONE, 14, Ok(2)),
     Load(
         &FREE,
-        Source(1, 0, 0, 0, 0, 0),
+        Loose { records: 0, ..ONE },
         4,
         Err(Fault {
             refusal: Refusal::Memory,
             place: 0,
         }),
     ),
-    Load(&FREE, Source(1, 0, 0, 0, 0, 0), 5, Ok(0)),
-    Load(&FREE, Source(1, 0, 0, 0, 0, 0), 9, Ok(1)),
+    Load(&FREE, Loose { records: 0, ..ONE }, 5, Ok(0)),
+    Load(&FREE, Loose { records: 0, ..ONE }, 9, Ok(1)),
     Load(
         &FREE,
-        Source(1, 4095, 0, 0, 0, 0),
+        Loose {
+            records: 4095,
+            ..ONE
+        },
         4099,
         Err(Fault {
             refusal: Refusal::Memory,
             place: 0,
         }),
     ),
-    Load(&FREE, Source(1, 4095, 0, 0, 0, 0), 4136, Ok(9)),
+    Load(
+        &FREE,
+        Loose {
+            records: 4095,
+            ..ONE
+        },
+        4136,
+        Ok(9),
+    ),
     Load(
         &ROUND,
-        Source(1, 6, 1, 0, 0, 2),
+        SIX,
         17,
         Err(Fault {
             refusal: Refusal::Memory,
             place: 0,
         }),
     ),
-    Load(&ROUND, Source(1, 6, 1, 0, 0, 2), 18, Ok(0)),
-    Load(&ROUND, Source(1, 6, 1, 0, 0, 2), 45, Ok(9)),
-    Load(&ROUND, Source(1, 0, 1, 0, 0, 2), 6, Ok(0)),
+    Load(&ROUND, SIX, 18, Ok(0)),
+    Load(&ROUND, SIX, 45, Ok(9)),
+    Load(&ROUND, Loose { records: 0, ..SIX }, 6, Ok(0)),
     Load(
         &JOINED,
-        Source(2, 2, 1, 0, 1, 1),
+        TWO,
         12,
         Err(Fault {
             refusal: Refusal::Memory,
             place: 0,
         }),
     ),
-    Load(&JOINED, Source(2, 2, 1, 0, 1, 1), 13, Ok(0)),
-    Load(&JOINED, Source(2, 2, 1, 0, 1, 1), 16, Ok(1)),
+    Load(&JOINED, TWO, 13, Ok(0)),
+    Load(&JOINED, TWO, 16, Ok(1)),
     Load(
         &TWO_ROUND,
-        Source(1, 2, 2, 0, 0, 1),
+        TWICE,
         13,
         Err(Fault {
             refusal: Refusal::Memory,
             place: 0,
         }),
     ),
-    Load(&TWO_ROUND, Source(1, 2, 2, 0, 0, 1), 17, Ok(1)),
+    Load(&TWO_ROUND, TWICE, 17, Ok(1)),
     // another shape
     Load(
         &FREE,
-        Source(0, 1, 0, 0, 0, 0),
+        Loose { kinds: 0, ..ONE },
         14,
         Err(Fault {
             refusal: Refusal::Shape,
@@ -144,7 +181,7 @@ pub const LOADS: [Load; 44] = [
     ),
     Load(
         &FREE,
-        Source(2, 1, 0, 0, 0, 0),
+        Loose { kinds: 2, ..ONE },
         14,
         Err(Fault {
             refusal: Refusal::Shape,
@@ -153,7 +190,7 @@ pub const LOADS: [Load; 44] = [
     ),
     Load(
         &FREE,
-        Source(1, 1, 1, 0, 0, 0),
+        Loose { links: 1, ..ONE },
         14,
         Err(Fault {
             refusal: Refusal::Shape,
@@ -162,7 +199,7 @@ pub const LOADS: [Load; 44] = [
     ),
     Load(
         &ROUND,
-        Source(1, 6, 0, 0, 0, 2),
+        Loose { links: 0, ..SIX },
         45,
         Err(Fault {
             refusal: Refusal::Shape,
@@ -171,7 +208,7 @@ pub const LOADS: [Load; 44] = [
     ),
     Load(
         &ROUND,
-        Source(1, 6, 2, 0, 0, 2),
+        Loose { links: 2, ..SIX },
         45,
         Err(Fault {
             refusal: Refusal::Shape,
@@ -180,7 +217,7 @@ pub const LOADS: [Load; 44] = [
     ),
     Load(
         &ROUND,
-        Source(1, 6, 1, 1, 0, 2),
+        Loose { from: 1, ..SIX },
         45,
         Err(Fault {
             refusal: Refusal::Shape,
@@ -189,7 +226,7 @@ pub const LOADS: [Load; 44] = [
     ),
     Load(
         &ROUND,
-        Source(1, 6, 1, 0, 1, 2),
+        Loose { to: 1, ..SIX },
         45,
         Err(Fault {
             refusal: Refusal::Shape,
@@ -198,7 +235,11 @@ pub const LOADS: [Load; 44] = [
     ),
     Load(
         &JOINED,
-        Source(2, 2, 1, 1, 0, 1),
+        Loose {
+            from: 1,
+            to: 0,
+            ..TWO
+        },
         16,
         Err(Fault {
             refusal: Refusal::Shape,
@@ -208,7 +249,10 @@ pub const LOADS: [Load; 44] = [
     // too many records, before a link that strays and before memory
     Load(
         &FREE,
-        Source(1, 4096, 0, 0, 0, 0),
+        Loose {
+            records: 4096,
+            ..ONE
+        },
         0,
         Err(Fault {
             refusal: Refusal::Large,
@@ -217,7 +261,10 @@ pub const LOADS: [Load; 44] = [
     ),
     Load(
         &FREE,
-        Source(1, u32::MAX, 0, 0, 0, 0),
+        Loose {
+            records: u32::MAX,
+            ..ONE
+        },
         9000,
         Err(Fault {
             refusal: Refusal::Large,
@@ -226,7 +273,11 @@ pub const LOADS: [Load; 44] = [
     ),
     Load(
         &JOINED,
-        Source(2, 2048, 1, 0, 1, 9999),
+        Loose {
+            records: 2048,
+            led: 9999,
+            ..TWO
+        },
         9000,
         Err(Fault {
             refusal: Refusal::Large,
@@ -235,7 +286,11 @@ pub const LOADS: [Load; 44] = [
     ),
     Load(
         &FREE,
-        Source(2, 4096, 0, 0, 0, 0),
+        Loose {
+            kinds: 2,
+            records: 4096,
+            ..ONE
+        },
         9000,
         Err(Fault {
             refusal: Refusal::Shape,
@@ -245,7 +300,7 @@ pub const LOADS: [Load; 44] = [
     // a link that strays, before memory
     Load(
         &ROUND,
-        Source(1, 6, 1, 0, 0, 6),
+        Loose { led: 6, ..SIX },
         0,
         Err(Fault {
             refusal: Refusal::Leads,
@@ -254,7 +309,10 @@ pub const LOADS: [Load; 44] = [
     ),
     Load(
         &ROUND,
-        Source(1, 6, 1, 0, 0, u32::MAX),
+        Loose {
+            led: u32::MAX,
+            ..SIX
+        },
         45,
         Err(Fault {
             refusal: Refusal::Leads,
@@ -263,7 +321,7 @@ pub const LOADS: [Load; 44] = [
     ),
     Load(
         &JOINED,
-        Source(2, 2, 1, 0, 1, 2),
+        Loose { led: 2, ..TWO },
         16,
         Err(Fault {
             refusal: Refusal::Leads,
@@ -273,7 +331,11 @@ pub const LOADS: [Load; 44] = [
     // the problem's words come first, with their own places
     Load(
         &[],
-        Source(0, 9999, 0, 0, 0, 0),
+        Loose {
+            kinds: 0,
+            records: 9999,
+            ..ONE
+        },
         0,
         Err(Fault {
             refusal: Refusal::Missing,
@@ -282,7 +344,7 @@ pub const LOADS: [Load; 44] = [
     ),
     Load(
         &[0x10000001, 0x10000101, 0x20000000],
-        Source(1, 1, 0, 0, 0, 0),
+        ONE,
         14,
         Err(Fault {
             refusal: Refusal::Missing,
@@ -291,7 +353,7 @@ pub const LOADS: [Load; 44] = [
     ),
     Load(
         &[0x10000101],
-        Source(1, 1, 0, 0, 0, 0),
+        ONE,
         14,
         Err(Fault {
             refusal: Refusal::Wrong,
@@ -300,7 +362,7 @@ pub const LOADS: [Load; 44] = [
     ),
     Load(
         &[0x10000001, 0x10000101, 0x20000000, 0x50000000, 0x70000005],
-        Source(1, 1, 0, 0, 0, 0),
+        ONE,
         14,
         Err(Fault {
             refusal: Refusal::Wrong,
@@ -309,7 +371,7 @@ pub const LOADS: [Load; 44] = [
     ),
     Load(
         &[0x10000021],
-        Source(33, 1, 0, 0, 0, 0),
+        Loose { kinds: 33, ..ONE },
         14,
         Err(Fault {
             refusal: Refusal::Limit,
@@ -318,7 +380,7 @@ pub const LOADS: [Load; 44] = [
     ),
     Load(
         &[0x10000001, 0x10000101, 0x20000001, 0x50000000, 0x70000004],
-        Source(1, 1, 0, 0, 0, 0),
+        ONE,
         14,
         Err(Fault {
             refusal: Refusal::Unknown,
@@ -329,7 +391,7 @@ pub const LOADS: [Load; 44] = [
         &[
             0x10000001, 0x20000000, 0x10000101, 0x50000000, 0x60000001, 0x40000000, 0x70000006,
         ],
-        Source(1, 6, 1, 0, 0, 2),
+        SIX,
         45,
         Err(Fault {
             refusal: Refusal::Unknown,
@@ -341,7 +403,7 @@ pub const LOADS: [Load; 44] = [
             0x10000001, 0x10000102, 0x20000001, 0x30000101, 0x40000000, 0x40000000, 0x30000200,
             0x40000000, 0x40000000, 0x50000000, 0x70000009,
         ],
-        Source(1, 1, 0, 0, 0, 0),
+        ONE,
         14,
         Err(Fault {
             refusal: Refusal::Unjoined,

@@ -1,4 +1,5 @@
 // Loads of tables, accepted and refused.
+use crate::OLD;
 use crate::load_tables::{LOADS, Load, ROUND, SECOND_STRAYS, TWO_ROUND};
 use registers::blank::Blank;
 use registers::held::Held;
@@ -6,24 +7,18 @@ use registers::register::Register;
 use registers::wheel::Wheel;
 use std::process::Abort;
 use table::table::Table;
-use vectors::loose::Loose;
 use words::faults::{Fault, Refusal};
-
-// Every work word holds this before a load.
-const OLD: u32 = 0xF1234567;
 
 fn loads<R: Register>(words: &mut [u32], problem: &[u32], source: &R) -> Result<u32, Fault> {
     let mut table = Table::open(words);
     table.load(problem, source)?;
-    table
-        .capacity()
-        .map_err(|refusal| Fault { refusal, place: 0 })
+    table.capacity().map_err(|refusal| refusal.at(0))
 }
 
 // After a refused load every word is as it was.
 fn loads_row(rt: &impl Abort, row: usize, case: Load) {
     let mut words = [OLD; 9000];
-    let told = loads(&mut words[..case.2.min(9000)], case.0, &Loose::from(case.1));
+    let told = loads(&mut words[..case.2.min(9000)], case.0, &case.1);
     assert_eq!(rt; (row, told), (row, case.3));
     if case.3.is_err() {
         for word in &words {
@@ -49,17 +44,11 @@ fn layers_are_sources(rt: HostRuntime) {
     assert_eq!(rt; loads(&mut words, &TWO_ROUND, &held), Ok(9));
     assert_eq!(rt;
         loads(&mut words, &TWO_ROUND, &Blank::over(held)),
-        Err(Fault {
-            refusal: Refusal::Leads,
-            place: 1
-        })
+        Err(Refusal::Leads.at(1))
     );
     assert_eq!(rt;
         loads(&mut words, &ROUND, &Blank::over(Wheel::new(3, &[1]))),
-        Err(Fault {
-            refusal: Refusal::Leads,
-            place: 0
-        })
+        Err(Refusal::Leads.at(0))
     );
     assert_eq!(rt;
         loads(&mut words, &ROUND, &Blank::over(Wheel::new(1, &[1]))),

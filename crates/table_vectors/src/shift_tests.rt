@@ -1,88 +1,83 @@
 // Shifts played to their end, and finish.
+use crate::OLD;
 use crate::shift_tables::{RUNS, Run};
 use machine::answers::Ending;
 use registers::held::Held;
 use std::process::Abort;
-use std::test::Fail;
 use table::table::Table;
 use table::table::shift::{Shift, Step};
 use words::faults::Refusal;
 
-// Every output word holds this before a finish.
-const OLD: u32 = 0xF1234567;
-
-// Finishes into so many words, and tells the answer; all words from the told number on are as they were.
-fn finishes(
-    rt: &impl Abort,
+// The table of a row on trial: what it plays and finishes.
+#[derive(Drop)]
+struct Trial<'a, 'w, A> {
+    rt: &'a A,
     row: usize,
-    table: &mut Table,
-    room: usize,
-    out: &mut [u32; 64],
-) -> Result<usize, Refusal> {
-    out.fill(OLD);
-    let told = table.finish(&mut out[..room.min(64)]);
-    for word in &out[told.unwrap_or(0).min(64)..] {
-        assert_eq!(rt; (row, *word), (row, OLD));
+    table: Table<'w>,
+}
+
+impl<A: Abort> Trial<'_, '_, A> {
+    // Finishes into so many words, and tells the answer; all words from the told number on are as they were.
+    fn finishes(&mut self, room: usize, out: &mut [u32; 64]) -> Result<usize, Refusal> {
+        out.fill(OLD);
+        let told = self.table.finish(&mut out[..room.min(64)]);
+        for word in &out[told.unwrap_or(0).min(64)..] {
+            assert_eq!(self.rt; (self.row, *word), (self.row, OLD));
+        }
+        told
     }
-    told
-}
 
-// Finish where it must give these words: also a second time, and not where one word is missing.
-fn gives(rt: &impl Abort, row: usize, table: &mut Table, words: &[u32]) -> Result<(), Fail> {
-    let mut out = [0; 64];
-    let told = finishes(rt, row, table, words.len().saturating_sub(1), &mut out);
-    assert_eq!(rt; (row, told), (row, Err(Refusal::Memory)));
-    for room in [words.len(), 64] {
-        let told = finishes(rt, row, table, room, &mut out);
-        assert_eq!(rt; (row, told), (row, Ok(words.len())));
-        assert_eq!(rt; (row, &out[..words.len().min(64)]), (row, words));
+    // Finish where it must be refused.
+    fn refuses(&mut self, room: usize, refusal: Refusal) {
+        let told = self.finishes(room, &mut [0; 64]);
+        assert_eq!(self.rt; (self.row, told), (self.row, Err(refusal)));
     }
-    Ok(())
+
+    // Finish where it must give these words: also a second time, and not where one word is missing.
+    fn gives(&mut self, words: &[u32]) {
+        self.refuses(words.len().saturating_sub(1), Refusal::Memory);
+        let mut out = [0; 64];
+        for room in [words.len(), 64] {
+            let told = self.finishes(room, &mut out);
+            assert_eq!(self.rt; (self.row, told), (self.row, Ok(words.len())));
+            assert_eq!(self.rt; (self.row, &out[..words.len().min(64)]), (self.row, words));
+        }
+    }
+
+    fn plays(&mut self, budget: u32, end: (Ending, u32)) {
+        assert_eq!(self.rt;
+            (self.row, self.table.play(Shift::begin(budget))),
+            (self.row, end)
+        );
+    }
 }
 
-// On a table that is not loaded a step ends the shift, and finish is refused.
-fn refuses_unloaded(rt: &impl Abort, row: usize, table: &mut Table) {
-    let mut out = [0; 64];
-    assert_eq!(rt;
-        (row, table.play(Shift::begin(9))),
-        (row, (Ending::NotLoaded, 0))
-    );
-    let told = finishes(rt, row, table, 64, &mut out);
-    assert_eq!(rt; (row, told), (row, Err(Refusal::State)));
-}
-
-fn runs(rt: &impl Abort, row: usize, case: Run) -> Result<(), Fail> {
+fn runs(rt: &impl Abort, row: usize, case: Run) {
     let mut words = [0; 400];
-    let mut table = Table::open(&mut words[..case.work.min(400)]);
-    refuses_unloaded(rt, row, &mut table);
+    let table = Table::open(&mut words[..case.work.min(400)]);
+    let mut trial = Trial { rt, row, table };
+    // On a table that is not loaded a step ends the shift, and finish is refused.
+    trial.plays(9, (Ending::NotLoaded, 0));
+    trial.refuses(64, Refusal::State);
     let mut held = Held::new();
     assert_eq!(rt; held.take(case.register).is_ok(), true);
-    assert_eq!(rt; table.load(case.problem, &held).is_ok(), true);
+    assert_eq!(rt; trial.table.load(case.problem, &held).is_ok(), true);
+    trial.plays(case.budget, (case.ending, case.steps));
     assert_eq!(rt;
-        (row, table.play(Shift::begin(case.budget))),
-        (row, (case.ending, case.steps))
-    );
-    assert_eq!(rt;
-        (row, table.given(), table.living()),
+        (row, trial.table.given(), trial.table.living()),
         (row, Ok(case.given), Ok(case.living))
     );
     match case.finish {
-        Ok(words) => gives(rt, row, &mut table, words),
-        Err(refusal) => {
-            let mut out = [0; 64];
-            let told = finishes(rt, row, &mut table, 64, &mut out);
-            assert_eq!(rt; (row, told), (row, Err(refusal)));
-            Ok(())
-        }
+        Ok(words) => trial.gives(words),
+        Err(refusal) => trial.refuses(64, refusal),
     }
 }
 
 #[test]
-fn shifts_and_finish(rt: HostRuntime) -> Result<(), Fail> {
+fn shifts_and_finish(rt: HostRuntime) {
     for (row, case) in RUNS.iter().enumerate() {
-        runs(&rt, row, *case)?;
+        runs(&rt, row, *case);
     }
-    Ok(())
 }
 
 // Two steps by hand, and the rest played.

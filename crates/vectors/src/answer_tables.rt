@@ -225,24 +225,28 @@ pub const WHEEL_BLANK_BLANK: [Ask; 6] = [
     Ask::Follow(0, u32::MAX, None),
 ];
 
-// A file that a held register is given, the fault if it is refused, and the answers then.
+// A file that a held register is given, whether it takes it or for which fault not, and the answers then.
 #[derive(Clone, Copy)]
-pub struct Take(pub &'static [u32], pub Option<Fault>, pub &'static [Ask]);
+pub struct Take(
+    pub &'static [u32],
+    pub Result<(), Fault>,
+    pub &'static [Ask],
+);
 
 // One after another, to one held register that took nothing before.
 pub const TAKES: [Take; 8] = [
     Take(
         &[],
-        Some(Fault {
+        Err(Fault {
             refusal: Refusal::Missing,
             place: 0,
         }),
         &NOTHING,
     ),
-    Take(&PAIR, None, &PAIR_HELD),
+    Take(&PAIR, Ok(()), &PAIR_HELD),
     Take(
         &[0x80000021],
-        Some(Fault {
+        Err(Fault {
             refusal: Refusal::Limit,
             place: 0,
         }),
@@ -250,7 +254,7 @@ pub const TAKES: [Take; 8] = [
     ),
     Take(
         &[0x80000001, 0x90000009, 0x70000003],
-        Some(Fault {
+        Err(Fault {
             refusal: Refusal::Wrong,
             place: 2,
         }),
@@ -258,22 +262,22 @@ pub const TAKES: [Take; 8] = [
     ),
     Take(
         &[0x80000000, 0xA0000000, 0x70000002],
-        Some(Fault {
+        Err(Fault {
             refusal: Refusal::Unknown,
             place: 1,
         }),
         &PAIR_HELD,
     ),
-    Take(&WHOLE, None, &BOTH_WAYS_HELD),
+    Take(&WHOLE, Ok(()), &BOTH_WAYS_HELD),
     Take(
         &[0x80000001, 0x90000009],
-        Some(Fault {
+        Err(Fault {
             refusal: Refusal::Missing,
             place: 2,
         }),
         &BOTH_WAYS_HELD,
     ),
-    Take(&[0x80000000, 0x70000001], None, &NOTHING),
+    Take(&[0x80000000, 0x70000001], Ok(()), &NOTHING),
 ];
 
 // A wheel's size, its steps, and its answers.

@@ -36,9 +36,9 @@ fn answers_each<R: Register>(rt: &impl Abort, register: &R, table: &[Ask]) {
     }
 }
 
-// The fault of a file that a held register refuses to take.
-fn refusal<'a>(held: &mut Held<'a>, words: &'a [u32]) -> Option<Fault> {
-    held.take(words).err().map(Fault::from)
+// A held register takes a file, or tells the fault for which it refuses.
+fn takes<'a>(held: &mut Held<'a>, words: &'a [u32]) -> Result<(), Fault> {
+    Ok(held.take(words)?)
 }
 
 // A held register answers by its file, and keeps it when another is refused.
@@ -47,7 +47,7 @@ fn held_answers(rt: HostRuntime) {
     let mut held = Held::new();
     answers_each(&rt, &held, &NOTHING);
     for case in &TAKES {
-        assert_eq!(rt; refusal(&mut held, case.0), case.1);
+        assert_eq!(rt; takes(&mut held, case.0), case.1);
         answers_each(&rt, &held, case.2);
     }
 }
@@ -63,7 +63,7 @@ fn wheel_answers(rt: HostRuntime) {
 fn blank_over_held_answers(rt: HostRuntime) {
     let mut held = Held::new();
     answers_each(&rt, &Blank::over(held), &NOTHING);
-    assert_eq!(rt; refusal(&mut held, &FOUR), None);
+    assert_eq!(rt; takes(&mut held, &FOUR), Ok(()));
     answers_each(&rt, &Blank::over(held), &FOUR_BLANK);
     let twice = Blank::over(Blank::over(held));
     answers_each(&rt, &twice, &FOUR_BLANK_BLANK);

@@ -2,6 +2,7 @@
 use problems::read_problem;
 use register_files::read_register;
 use std::alloc::{AllocError, Global};
+use std::fmt::Debug;
 use std::process::Abort;
 use std::test::Fail;
 use words::faults::{Fault, Refusal};
@@ -14,13 +15,21 @@ pub enum Reader {
 }
 
 impl Reader {
-    // The fault of a file, if it is refused.
-    pub fn fault(self, words: &[u32]) -> Option<Fault> {
-        let read = match self {
-            Reader::Register => read_register(words).map(|_| ()),
-            Reader::Problem => read_problem(words).map(|_| ()),
-        };
-        read.err().map(Fault::from)
+    // Whether a file is read, or the fault for which it is refused.
+    pub fn reads(self, words: &[u32]) -> Result<(), Fault> {
+        match self {
+            Reader::Register => read_register(words).map(|_| ())?,
+            Reader::Problem => read_problem(words).map(|_| ())?,
+        }
+        Ok(())
+    }
+
+    pub(crate) fn on_trial(self, rt: &HostRuntime) -> Trial<'_, HostRuntime> {
+        Trial {
+            rt,
+            heap: rt.alloc(),
+            reader: self,
+        }
     }
 }
 
@@ -43,6 +52,10 @@ pub struct Run(pub u32, pub u32, pub u32);
 // A file of runs that is refused, why, and at which place.
 #[derive(Clone, Copy)]
 pub struct RunsRefused(pub &'static [Run], pub Refusal, pub usize);
+
+// A file of runs that is taken, and its outline.
+#[derive(Clone, Copy)]
+pub struct Taken<T>(pub &'static [Run], pub T);
 
 // Adds the words of a run.
 fn push_run(words: &mut Vec<u32>, run: Run) -> Result<(), AllocError> {
@@ -79,6 +92,8 @@ fn edited(heap: Global, words: &[u32], at: usize, word: u32) -> Result<Vec<u32>,
     Ok(copy)
 }
 
+// The next two keep bare numbers: they are a second source of the format, against which the readers are tested.
+
 // Whether a word of that tag may stand where a run of other words can end.
 fn may_follow(tag: u32) -> bool {
     matches!(tag, 1 | 2 | 3 | 5 | 7 | 10 | 12)
@@ -94,19 +109,33 @@ fn lowest_free(word: u32) -> u32 {
     }
 }
 
-// A reader on trial: what it must refuse.
+// A reader on trial: what it must take, and what it must refuse.
 #[derive(Drop)]
 pub(crate) struct Trial<'a, A> {
-    pub rt: &'a A,
-    pub heap: Global,
-    pub reader: Reader,
+    rt: &'a A,
+    heap: Global,
+    reader: Reader,
 }
 
 impl<A: Abort> Trial<'_, A> {
+    pub(crate) fn takes_each<T: Copy + PartialEq + Debug, F: Fn(&[u32]) -> Option<T>>(
+        &self,
+        table: &[Taken<T>],
+        outline: F,
+    ) -> Result<(), Fail>
+        requires { F.IsAlwaysCallable outline }
+    {
+        for (row, case) in table.iter().enumerate() {
+            let words = built(self.heap, case.0)?;
+            assert_eq!(self.rt; (row, outline(&words)), (row, Some(case.1)));
+        }
+        Ok(())
+    }
+
     fn refuses(&self, row: usize, words: &[u32], refusal: Refusal, place: usize) {
         assert_eq!(self.rt;
-            (row, self.reader.fault(words)),
-            (row, Some(Fault { refusal, place }))
+            (row, self.reader.reads(words)),
+            (row, Err(refusal.at(place)))
         );
     }
 
@@ -118,12 +147,8 @@ impl<A: Abort> Trial<'_, A> {
 
     pub(crate) fn refuses_worded(&self, table: &[Worded]) {
         for (row, case) in table.iter().enumerate() {
-            let fault = Fault {
-                refusal: case.1,
-                place: case.2,
-            };
-            self.refuses(row, case.0, fault.refusal, fault.place);
-            assert_eq!(self.rt; (row, fault.word()), (row, case.3));
+            self.refuses(row, case.0, case.1, case.2);
+            assert_eq!(self.rt; (row, case.1.at(case.2).word()), (row, case.3));
         }
     }
 

@@ -1,5 +1,5 @@
 // Problem files that are taken and refused.
-use crate::files::{Edit, Refused, Run, RunsRefused, Worded};
+use crate::files::{Edit, Refused, Run, RunsRefused, Taken, Worded};
 use words::faults::Refusal;
 
 // One target link g with the rule ggg = g.
@@ -674,10 +674,7 @@ pub const LIMITS: [RunsRefused; 36] = [
 
 // A file that is taken; of its source and of its target the kinds, the links and the place of the first link;
 // its rules, and the place of the kind maps.
-#[derive(Clone, Copy)]
-pub struct Taken(pub &'static [Run], pub [usize; 8]);
-
-pub const TAKEN: [Taken; 13] = [
+pub const TAKEN: [Taken<[usize; 8]>; 13] = [
     Taken(
         &[
             Run(0x10000001, 0, 1),

@@ -1,8 +1,8 @@
 // What the reader of problems takes and refuses, and the tokens of what it took.
-use crate::files::{Reader, Run, Trial, built, push_runs};
+use crate::files::{Reader, Run, built, push_runs};
 use crate::problem_tables::{
     FORMAT, FORMAT_EDITS, GGG, LARGEST_MAPS, LARGEST_RULES, LIMITS, MAP_EDITS, MAPS, REFUSED,
-    RULE_EDITS, RULES, SCHEMA_EDITS, ShownMap, ShownRule, TAKEN, Taken, WHOLE,
+    RULE_EDITS, RULES, SCHEMA_EDITS, ShownMap, ShownRule, TAKEN, WHOLE,
 };
 use problems::{Found, link_map_at, read_problem, rule_at};
 use std::alloc::{AllocError, Global};
@@ -10,17 +10,9 @@ use std::process::Abort;
 use std::test::Fail;
 use words::tokens::Token;
 
-fn on_trial(rt: &HostRuntime) -> Trial<'_, HostRuntime> {
-    Trial {
-        rt,
-        heap: rt.alloc(),
-        reader: Reader::Problem,
-    }
-}
-
 #[test]
 fn refuses_small_problems(rt: HostRuntime) {
-    let trial = on_trial(&rt);
+    let trial = Reader::Problem.on_trial(&rt);
     trial.refuses_worded(&FORMAT);
     trial.refuses_each(&REFUSED);
     trial.misses_each(&GGG);
@@ -29,7 +21,7 @@ fn refuses_small_problems(rt: HostRuntime) {
 
 #[test]
 fn refuses_edited_problems(rt: HostRuntime) -> Result<(), Fail> {
-    let trial = on_trial(&rt);
+    let trial = Reader::Problem.on_trial(&rt);
     trial.refuses_edits(&GGG, &FORMAT_EDITS)?;
     trial.refuses_edits(&WHOLE, &SCHEMA_EDITS)?;
     trial.refuses_edits(&WHOLE, &RULE_EDITS)?;
@@ -40,7 +32,7 @@ fn refuses_edited_problems(rt: HostRuntime) -> Result<(), Fail> {
 
 #[test]
 fn refuses_problems_at_limits(rt: HostRuntime) -> Result<(), Fail> {
-    on_trial(&rt).refuses_runs(&LIMITS)
+    Reader::Problem.on_trial(&rt).refuses_runs(&LIMITS)
 }
 
 fn outline(words: &[u32]) -> Option<[usize; 8]> {
@@ -57,14 +49,6 @@ fn outline(words: &[u32]) -> Option<[usize; 8]> {
         found.rules.len(),
         found.maps,
     ])
-}
-
-fn takes_each(rt: &impl Abort, heap: Global, table: &[Taken]) -> Result<(), Fail> {
-    for (row, case) in table.iter().enumerate() {
-        let words = built(heap, case.0)?;
-        assert_eq!(rt; (row, outline(&words)), (row, Some(case.1)));
-    }
-    Ok(())
 }
 
 // Adds 64 link maps of 64 steps.
@@ -107,7 +91,7 @@ fn largest(heap: Global) -> Result<Vec<u32>, AllocError> {
 
 #[test]
 fn takes_problems(rt: HostRuntime) -> Result<(), Fail> {
-    takes_each(&rt, rt.alloc(), &TAKEN)?;
+    Reader::Problem.on_trial(&rt).takes_each(&TAKEN, outline)?;
     let words = largest(rt.alloc())?;
     assert_eq!(rt; words.len(), 20835);
     assert_eq!(rt;

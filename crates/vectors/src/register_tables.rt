@@ -1,5 +1,5 @@
 // Register files that are taken and refused.
-use crate::files::{Edit, Refused, Run, RunsRefused, Worded};
+use crate::files::{Edit, Refused, Run, RunsRefused, Taken, Worded};
 use words::faults::Refusal;
 
 // The refused register files of docs/FORMAT.md.
@@ -421,20 +421,15 @@ pub const LIMITS: [RunsRefused; 22] = [
 ];
 
 // A file that is taken, its kinds, its links, and the place of the last link (0 if there is none).
-#[derive(Clone, Copy)]
-pub struct Taken(pub &'static [Run], pub u32, pub usize, pub usize);
-
-pub const TAKEN: [Taken; 15] = [
-    Taken(&[Run(0x80000000, 0, 1), Run(0x70000001, 0, 1)], 0, 0, 0),
+pub const TAKEN: [Taken<(u32, usize, usize)>; 15] = [
+    Taken(&[Run(0x80000000, 0, 1), Run(0x70000001, 0, 1)], (0, 0, 0)),
     Taken(
         &[
             Run(0x80000001, 0, 1),
             Run(0x90000002, 0, 1),
             Run(0x70000002, 0, 1),
         ],
-        1,
-        0,
-        0,
+        (1, 0, 0),
     ),
     Taken(
         &[
@@ -447,9 +442,7 @@ pub const TAKEN: [Taken; 15] = [
             Run(0xB0000000, 0, 1),
             Run(0x70000008, 0, 1),
         ],
-        1,
-        1,
-        2,
+        (1, 1, 2),
     ),
     // 32 kinds; a link between the last of them, without records, and landings in the last
     Taken(
@@ -458,9 +451,7 @@ pub const TAKEN: [Taken; 15] = [
             Run(0x90000000, 0, 32),
             Run(0x70000021, 0, 1),
         ],
-        32,
-        0,
-        0,
+        (32, 0, 0),
     ),
     Taken(
         &[
@@ -470,9 +461,7 @@ pub const TAKEN: [Taken; 15] = [
             Run(0xC000001F, 0, 1),
             Run(0x70000023, 0, 1),
         ],
-        32,
-        1,
-        33,
+        (32, 1, 33),
     ),
     // 64 links without records
     Taken(
@@ -482,9 +471,7 @@ pub const TAKEN: [Taken; 15] = [
             Run(0xA0000000, 0, 64),
             Run(0x70000042, 0, 1),
         ],
-        1,
-        64,
-        65,
+        (1, 64, 65),
     ),
     // 32 landings words
     Taken(
@@ -494,9 +481,7 @@ pub const TAKEN: [Taken; 15] = [
             Run(0xC0000000, 0x100, 32),
             Run(0x70000022, 0, 1),
         ],
-        1,
-        0,
-        0,
+        (1, 0, 0),
     ),
     // the largest count, and a link from it to the last record
     Taken(
@@ -505,9 +490,7 @@ pub const TAKEN: [Taken; 15] = [
             Run(0x9000FFFF, 0, 1),
             Run(0x70000002, 0, 1),
         ],
-        1,
-        0,
-        0,
+        (1, 0, 0),
     ),
     Taken(
         &[
@@ -517,9 +500,7 @@ pub const TAKEN: [Taken; 15] = [
             Run(0xB0000000, 1, 65535),
             Run(0x70010002, 0, 1),
         ],
-        1,
-        1,
-        2,
+        (1, 1, 2),
     ),
     // the most source records, into a kind of one record
     Taken(
@@ -530,9 +511,7 @@ pub const TAKEN: [Taken; 15] = [
             Run(0xB0000000, 0, 4095),
             Run(0x70001002, 0, 1),
         ],
-        1,
-        0,
-        0,
+        (1, 0, 0),
     ),
     // landings of more source kinds and source records than the file has kinds and records
     Taken(
@@ -544,9 +523,7 @@ pub const TAKEN: [Taken; 15] = [
             Run(0xB0000000, 0, 2),
             Run(0x70000007, 0, 1),
         ],
-        1,
-        0,
-        0,
+        (1, 0, 0),
     ),
     // a kind of no records leads by no record words, and is led to by none
     Taken(
@@ -558,9 +535,7 @@ pub const TAKEN: [Taken; 15] = [
             Run(0xA0000000, 0, 1),
             Run(0x70000006, 0, 1),
         ],
-        2,
-        3,
-        5,
+        (2, 3, 5),
     ),
     // a link to a kind of more records, and one to a kind of fewer
     Taken(
@@ -572,9 +547,7 @@ pub const TAKEN: [Taken; 15] = [
             Run(0xB0000004, 0, 1),
             Run(0x70000005, 0, 1),
         ],
-        2,
-        1,
-        3,
+        (2, 1, 3),
     ),
     Taken(
         &[
@@ -585,9 +558,7 @@ pub const TAKEN: [Taken; 15] = [
             Run(0xB0000000, 0, 3),
             Run(0x70000007, 0, 1),
         ],
-        2,
-        1,
-        3,
+        (2, 1, 3),
     ),
     // all links of two kinds, each with its own number of record words
     Taken(
@@ -604,8 +575,6 @@ pub const TAKEN: [Taken; 15] = [
             Run(0xB0000000, 1, 2),
             Run(0x7000000D, 0, 1),
         ],
-        2,
-        4,
-        10,
+        (2, 4, 10),
     ),
 ];

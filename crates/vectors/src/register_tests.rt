@@ -1,22 +1,13 @@
 // What the reader of register files takes and refuses.
-use crate::files::{Reader, Run, Trial, built, push_runs};
-use crate::register_tables::{EDITS, FORMAT, LIMITS, REFUSED, TAKEN, Taken, WHOLE};
+use crate::files::{Reader, Run, built, push_runs};
+use crate::register_tables::{EDITS, FORMAT, LIMITS, REFUSED, TAKEN, WHOLE};
 use register_files::read_register;
 use std::alloc::{AllocError, Global};
-use std::process::Abort;
 use std::test::Fail;
-
-fn on_trial(rt: &HostRuntime) -> Trial<'_, HostRuntime> {
-    Trial {
-        rt,
-        heap: rt.alloc(),
-        reader: Reader::Register,
-    }
-}
 
 #[test]
 fn refuses_small_files(rt: HostRuntime) {
-    let trial = on_trial(&rt);
+    let trial = Reader::Register.on_trial(&rt);
     trial.refuses_worded(&FORMAT);
     trial.refuses_each(&REFUSED);
     trial.misses_each(&WHOLE);
@@ -24,7 +15,7 @@ fn refuses_small_files(rt: HostRuntime) {
 
 #[test]
 fn refuses_edited_files(rt: HostRuntime) -> Result<(), Fail> {
-    let trial = on_trial(&rt);
+    let trial = Reader::Register.on_trial(&rt);
     trial.refuses_edits(&WHOLE, &EDITS)?;
     trial.refuses_tags(&WHOLE)?;
     trial.refuses_bits(&WHOLE)
@@ -32,7 +23,7 @@ fn refuses_edited_files(rt: HostRuntime) -> Result<(), Fail> {
 
 #[test]
 fn refuses_at_limits(rt: HostRuntime) -> Result<(), Fail> {
-    on_trial(&rt).refuses_runs(&LIMITS)
+    Reader::Register.on_trial(&rt).refuses_runs(&LIMITS)
 }
 
 // The kinds of a file, its links, and the place of the last; none if it is refused.
@@ -40,17 +31,6 @@ fn outline(words: &[u32]) -> Option<(u32, usize, usize)> {
     let found = read_register(words).ok()?;
     let place = found.links.as_slice().last().copied().unwrap_or(0);
     Some((found.kinds, found.links.len(), place))
-}
-
-fn takes_each(rt: &impl Abort, heap: Global, table: &[Taken]) -> Result<(), Fail> {
-    for (row, case) in table.iter().enumerate() {
-        let words = built(heap, case.0)?;
-        assert_eq!(rt;
-            (row, outline(&words)),
-            (row, Some((case.1, case.2, case.3)))
-        );
-    }
-    Ok(())
 }
 
 // Adds landings of 4,095 source records for each of 32 source kinds.
@@ -83,7 +63,7 @@ fn largest(heap: Global) -> Result<Vec<u32>, AllocError> {
 
 #[test]
 fn takes_files(rt: HostRuntime) -> Result<(), Fail> {
-    takes_each(&rt, rt.alloc(), &TAKEN)?;
+    Reader::Register.on_trial(&rt).takes_each(&TAKEN, outline)?;
     let words = largest(rt.alloc())?;
     assert_eq!(rt; words.len(), 4325410);
     assert_eq!(rt; outline(&words), Some((32, 64, 33 + 63 * 65536)));

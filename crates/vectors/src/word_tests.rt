@@ -6,13 +6,8 @@ use words::tokens::{Token, token_at};
 #[test]
 fn numbers_refusals(rt: HostRuntime) {
     for case in &REFUSALS {
-        let word = Fault {
-            refusal: case.0,
-            place: 7,
-        }
-        .word();
         assert_eq!(rt;
-            (case.0.number(), case.0.layer(), word),
+            (case.0.number(), case.0.layer(), case.0.at(7).word()),
             (case.1, case.2, case.3)
         );
     }
@@ -21,11 +16,7 @@ fn numbers_refusals(rt: HostRuntime) {
 #[test]
 fn places_faults(rt: HostRuntime) {
     for case in &PLACES {
-        let fault = Fault {
-            refusal: Refusal::Unknown,
-            place: case.0,
-        };
-        assert_eq!(rt; fault.word(), case.1);
+        assert_eq!(rt; Refusal::Unknown.at(case.0).word(), case.1);
     }
 }
 
@@ -75,12 +66,6 @@ fn shows_words(rt: HostRuntime) {
 #[test]
 fn shows_no_words(rt: HostRuntime) {
     for case in &NO_TOKENS {
-        assert_eq!(rt;
-            shown(case.0, case.1),
-            Err(Fault {
-                refusal: case.2,
-                place: case.3
-            })
-        );
+        assert_eq!(rt; shown(case.0, case.1), Err(case.2.at(case.3)));
     }
 }

@@ -2,7 +2,7 @@
 use crate::files::{Run, built};
 use crate::write_tables::{
     BLANK_REFUSED, BLANK_WRITTEN, BlankRefused, BlankWritten, LANDED, LOOSE_REFUSED, LOOSE_WRITTEN,
-    LooseRefused, LooseWritten, SAME, STILL, STILLER, THREE, Turned, WHEELS,
+    Landed, LooseRefused, LooseWritten, SAME, STILL, STILLER, Same, THREE, Turned, WHEELS,
 };
 use registers::blank::Blank;
 use registers::held::Held;
@@ -29,8 +29,8 @@ impl<A: Abort, R: Register> Trial<'_, '_, A, R> {
     // A write into that much memory is refused, and changes none of it.
     fn refuses(&self, room: usize, refusal: Refusal, place: usize) -> Result<(), Fail> {
         let mut out = Vec::from_elem(self.heap, FILL, room)?;
-        let fault = write(self.register, &mut out).err().map(Fault::from);
-        assert_eq!(self.rt; fault, Some(Fault { refusal, place }));
+        let told = write(self.register, &mut out).map_err(Fault::from);
+        assert_eq!(self.rt; told, Err(refusal.at(place)));
         assert_eq!(self.rt; out, Vec::from_elem(self.heap, FILL, room)?);
         Ok(())
     }
@@ -153,16 +153,25 @@ fn writes_held(rt: &impl Abort, heap: Global, file: &[Run], after: &[Run]) -> Re
     on_trial(rt, heap, &held).writes(&built(heap, after)?)
 }
 
+fn writes_same(rt: &impl Abort, heap: Global, table: &[Same]) -> Result<(), Fail> {
+    for case in table {
+        writes_held(rt, heap, case.0, case.0)?;
+    }
+    Ok(())
+}
+
+fn writes_landed(rt: &impl Abort, heap: Global, table: &[Landed]) -> Result<(), Fail> {
+    for case in table {
+        writes_held(rt, heap, case.0, case.1)?;
+    }
+    Ok(())
+}
+
 #[test]
 fn writes_held_registers(rt: HostRuntime) -> Result<(), Fail> {
     on_trial(&rt, rt.alloc(), &Held::new()).writes(&[0x80000000, 0x70000001])?;
-    for case in &SAME {
-        writes_held(&rt, rt.alloc(), case.0, case.0)?;
-    }
-    for case in &LANDED {
-        writes_held(&rt, rt.alloc(), case.0, case.1)?;
-    }
-    Ok(())
+    writes_same(&rt, rt.alloc(), &SAME)?;
+    writes_landed(&rt, rt.alloc(), &LANDED)
 }
 
 // Two registers answer alike of a link, from the first records and the largest.
