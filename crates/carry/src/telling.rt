@@ -13,6 +13,7 @@ pub(crate) fn tell_schema(
 ) -> io::Result<()> {
     let kinds = schema.kinds;
     print!(rt; "{name} schema: kinds {kinds}, links")?;
+    // Until there is no such link: a schema counts its links by a wider type than their numbers have.
     for (from, to) in (0..u32::MAX).map_while(|link| schema.ends(words, link)) {
         print!(rt; " {from}->{to}")?;
     }
@@ -31,7 +32,7 @@ pub(crate) fn tell_source<R: Register>(rt: &impl Print, source: &R) -> io::Resul
 
 // The finished words by their tokens: the count of each kind, where each link leads each record, and each landing.
 pub(crate) fn tell_register(rt: &impl Print, words: &[u32]) -> io::Result<()> {
-    // Counted by hand: the words of a link stand between it and the next.
+    // Counted by hand: no place tells the number of a kind or a link, since the records of links stand between.
     let mut kind = 0u32;
     let mut link = 0u32;
     for token in (0..words.len()).filter_map(|at| token_at(words, at).ok()) {

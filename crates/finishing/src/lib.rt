@@ -20,6 +20,7 @@ mod records;
 mod sizes;
 
 // A complete table whose numbering stands in its words, and what was found in its problem.
+// That a link is one of the table's stays a condition: it is said of a number that a loop counts.
 // It is no `Register`: the entries stand in the order of the sequence, so each call of `follow` would search them for those of one kind.
 #[derive(Clone, Copy)]
 struct Listing<'a> {

@@ -27,7 +27,7 @@ impl<R: Register> Offer<'_, '_, R> {
     }
 
     // How many records a source link leaves.
-    pub fn leaving(&self, link: u32) -> u32
+    pub(crate) fn leaving(&self, link: u32) -> u32
         ensures { link < self.now.schema.links → result ≡ leaving (problem_in self.now.problem.now) (R.meaning self.now.source.now).count link }
     {
         self.ends(link)
@@ -35,14 +35,14 @@ impl<R: Register> Offer<'_, '_, R> {
     }
 
     // How many records each source kind has.
-    pub fn counts(&self) -> [u32; 32]
+    pub(crate) fn counts(&self) -> [u32; 32]
         ensures { take self.now.schema.kinds result ≡ upto (R.meaning self.now.source.now).count self.now.schema.kinds }
     {
         from_fn(|kind| self.source.count(kind as u32))
     }
 
     // How many records each source link leaves.
-    pub fn leavings(&self) -> [u32; 64]
+    pub(crate) fn leavings(&self) -> [u32; 64]
         ensures { take self.now.schema.links result ≡ upto (leaving (problem_in self.now.problem.now) (R.meaning self.now.source.now).count) self.now.schema.links }
     {
         from_fn(|link| self.leaving(link as u32))
@@ -63,7 +63,7 @@ impl<R: Register> Offer<'_, '_, R> {
     }
 
     // Whether the source has other kinds, links or ends than the schema.
-    pub fn other_shape(&self) -> bool
+    pub(crate) fn other_shape(&self) -> bool
         ensures { result ≡ other_shape (problem_in self.now.problem.now) (R.meaning self.now.source.now) }
     {
         self.source.kinds() != self.schema.kinds
@@ -80,7 +80,7 @@ impl<R: Register> Offer<'_, '_, R> {
     }
 
     // The lowest link that strays.
-    pub fn lowest_stray(&self) -> Option<u32>
+    pub(crate) fn lowest_stray(&self) -> Option<u32>
         ensures { result ≡ lowest (link_strays (problem_in self.now.problem.now) (R.meaning self.now.source.now)) (length (problem_in self.now.problem.now).source_links) }
     {
         (0..self.schema.links as u32).find(|link| self.link_strays(*link))

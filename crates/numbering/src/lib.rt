@@ -15,7 +15,7 @@ use rows::{Rows, Slot};
 // Above every entry: a forward from here on is the number of an entry that was met.
 pub const MARK: u32 = 65536;
 
-// How many entries were met, and how many of each kind.
+// How many entries were met, and how many of each kind: a count for every kind that there may be, so no list of a length.
 #[derive(Clone, Copy)]
 pub struct Numbering {
     pub met: usize,

@@ -58,7 +58,7 @@ pub enum Slot {
 
 // The work words, where their parts begin, how many entries were given, and which slots the waiting list has.
 // The numbers fit the words in every value. That the table is tidy is a condition and no field: a death, a sweep and a numbering break it between two writes.
-// So is that a number names a given entry or a slot that has a word: it is said of a number and a table together, and a sweep ends it.
+// So is that a number names a given entry, or a slot one that has a word, or that something waits: calls make it true and untrue.
 #[derive(Drop)]
 pub struct Rows<'a> {
     pub words: &'a mut [u32],
