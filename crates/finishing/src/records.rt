@@ -1,5 +1,5 @@
 // The record words of links and landings.
-ghost use Rattle.std.specs.Prelude.{◌≡◌, ℕ, ◌+◌, ◌<◌, ◌≤◌, length};
+ghost use Rattle.std.specs.Prelude.{◌≡◌, ◌+◌, ◌<◌, ◌≤◌, length};
 ghost use Rattle.registers.specs.Splices.{spliced};
 ghost use Rattle.rows.specs.View.{raw, slot};
 ghost use Rattle.finishing.specs.Records.{appended, number_in, Numbered, lead_word, Led};

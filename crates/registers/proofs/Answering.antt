@@ -87,9 +87,6 @@ module _ (ws : List ℕ) (kinds : ℕ) (ps : List ℕ) (kinded : kinds ≡ lengt
       let n = links_are in
       ⊎_elim (λ (h : l < length ps). absurd (some_none (sym (slice_get-get_or ps l 0 h) ∙ e))) (λ (h : length ps ≤ l). omega arith) (cases_lt l (length ps))
 
-  pub count_inside : (k : ℕ) → k < kinds → 1 + k < length ws
-  count_inside k h = (held_count ws k (omega arith)).inside
-
   pub count_is : (k : ℕ) → k < kinds → get_or ws (1 + k) 0 % 268435456 ≡ (answers (file ws)).count k
   count_is k h = let s = held_count ws k (omega arith) in omega (arith, s.same, s.small)
 

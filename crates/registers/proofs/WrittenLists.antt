@@ -1,5 +1,5 @@
 -- Tests of the numbers below a limit, and lists made by count.
-use Rattle.std.proofs.Common.{◌≡◌, ℕ, zero, suc, ◌+◌, ◌<◌, ◌≤◌, Bool, true, false, cond, List, [], ◌∷◌, length, get_or, Some, None, Option, sym, refl, ap, ◌∙◌, ⊎_elim, add-one, arith, length-append}
+use Rattle.std.proofs.Common.{◌≡◌, ℕ, zero, suc, ◌<◌, ◌≤◌, Bool, true, false, cond, List, [], ◌∷◌, length, get_or, Some, None, Option, sym, refl, ap, ◌∙◌, ⊎_elim, arith, length-append}
 use Rattle.std.specs.List.{AllByRecursion}
 use Rattle.std.proofs.lemmas.List.{get_or_append_left, get_or_push, ext_get_or}
 use Rattle.std.proofs.ByRecursion.{All-push}
@@ -39,10 +39,6 @@ module _ (p : ℕ → Bool) where
   unfolding some_below
   none_from zero h = refl
   none_from (suc n) h = or_from _ _ (none_from n (λ k l. h k (omega arith))) (h n (omega arith))
-
-  pub lowest_more : (n : ℕ) → lowest p n ≡ None → p n ≡ false → lowest p (n + 1) ≡ None
-  unfolding lowest
-  lowest_more n h k = rw (add-one, h, k)
 
   pub lowest_found : (k n : ℕ) → k < n → lowest p k ≡ None → p k ≡ true → Some k ≡ lowest p n
   unfolding lowest

@@ -1,6 +1,7 @@
 -- The words of a register, part by part.
-use Rattle.std.proofs.Common.{◌≡◌, ℕ, zero, suc, ◌+◌, ◌*◌, ◌<◌, ◌≤◌, List, [], ◌∷◌, ◌++◌, map, length, drop, Some, None, sym, refl, ap, ◌∙◌, ⊎_elim, zero-add, add-one, arith, length-append}
+use Rattle.std.proofs.Common.{◌≡◌, ℕ, zero, suc, ◌+◌, ◌*◌, ◌<◌, ◌≤◌, List, [], ◌∷◌, ◌++◌, map, length, drop, Some, None, Option, sym, refl, ap, ◌∙◌, ⊎_elim, zero-add, add-one, arith, length-append}
 use Rattle.std.specs.List.{flat_map, range_with_len, sum_by}
+use Rattle.std.specs.Option.{option_map_or}
 use Rattle.std.proofs.lemmas.List.FromFn.{sum_by-map-range_with_len_more}
 use Rattle.std.proofs.lemmas.List.{append-nil, map-id, length-map, flat_map_more, map_push}
 use Rattle.std.proofs.lemmas.Bool.{cases_lt}
@@ -86,9 +87,10 @@ module _ (m : Meaning) where
       let n = length-map (upto (lead m l) (m.count from)) (tagged tag.Record) ∙ upto_length (lead m l) (m.count from) in
       ap length (row_parts l from to e) ∙ (omega arith)
 
-  pub row_none : (l : ℕ) → None ≡ m.ends l → 1 ≡ length (row_words m l)
+  pub row_size : (l : ℕ) (o : Option (ℕ × ℕ)) → o ≡ m.ends l → option_map_or (λ e. 1 + m.count e.0) o 1 ≡ length (row_words m l)
   unfolding row_words
-  row_none l e = ap (λ o. length (link_words (row_by m l o))) e
+  row_size l (Some e) h = sym (row_length l e.0 e.1 h)
+  row_size l None h = ap (λ o. length (link_words (row_by m l o))) h
 
   file_parts : file_words m
       ≡ (((tagged tag.Register m.kinds ∷ []) ++ count_words m m.kinds) ++ links_words m m.links) ++ tagged tag.End (1 + m.kinds + length (links_words m m.links)) ∷ []

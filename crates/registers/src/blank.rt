@@ -41,9 +41,8 @@ impl<R: Register> Register for Blank<R> {
     }
 
     fn follow(&self, link: u32, record: u32) -> Option<u32> {
-        match self.below.follow(link, record.checked_add(1)?)? {
-            0 => None,
-            led => Some(led - 1),
-        }
+        self.below
+            .follow(link, record.checked_add(1)?)?
+            .checked_sub(1)
     }
 }

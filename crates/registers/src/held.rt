@@ -1,4 +1,4 @@
-ghost use Rattle.std.specs.Prelude.{◌≡◌, ℕ, ◌+◌, length};
+ghost use Rattle.std.specs.Prelude.{◌≡◌, ◌+◌, length};
 ghost use Rattle.bounded.specs.Listed.{listed};
 ghost use Rattle.words.specs.Items.{places as places_of};
 ghost use Rattle.register_files.specs.Register.{span};

@@ -1,4 +1,4 @@
-ghost use Rattle.std.specs.Prelude.{◌≡◌, ℕ, ◌+◌, ◌≤◌};
+ghost use Rattle.std.specs.Prelude.{◌≡◌};
 ghost use Rattle.register_files.specs.Register.{read as read_of};
 ghost use Rattle.words.specs.Words.{giving};
 ghost use Rattle.registers.specs.Meaning.{answers, no_file};

@@ -39,10 +39,9 @@ fn is_broken<R: Register>(register: &R, link: u32) -> bool
     ensures { result ≡ broken (R.meaning register.now) link }
 {
     let kinds = register.kinds();
-    match register.ends(link) {
-        Some((from, to)) => !(from < kinds && to < kinds) || strays(register, link, from, to),
-        None => true,
-    }
+    register.ends(link).is_none_or(|(from, to)| {
+        !(from < kinds && to < kinds) || strays(register, link, from, to)
+    })
 }
 
 // The lowest link that cannot be written.
@@ -57,10 +56,9 @@ fn link_size<R: Register>(register: &R, link: u32) -> usize
     ensures words { result ≡ length (row_words (R.meaning register.now) link) }
     ensures fits { result ≤ 4294967296 }
 {
-    match register.ends(link) {
-        Some((from, _)) => 1 + register.count(from) as usize,
-        None => 1,
-    }
+    register
+        .ends(link)
+        .map_or(1, |(from, _)| 1 + register.count(from) as usize)
 }
 
 // How many words the links take.

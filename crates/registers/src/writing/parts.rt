@@ -1,4 +1,5 @@
 // The words of a register, written part by part.
+// The output and a place in it are passed apart, not as one cursor: a contract here says what the whole output holds, by its place.
 ghost use Rattle.std.specs.Prelude.{◌≡◌, ◌+◌, ◌<◌, ◌≤◌, [], ◌∷◌, ◌++◌, length, drop};
 ghost use Rattle.words.specs.Tags.{tagged};
 ghost use Rattle.registers.specs.Splices.{spliced};
@@ -11,7 +12,8 @@ use words::tags::Tag;
 
 // Puts one word.
 pub fn put(out: &mut [u32], at: usize, tag: Tag, fields: u32)
-    requires { (at < length out.old) × (fields < 268435456) }
+    requires room { at < length out.old }
+    requires small { fields < 268435456 }
     ensures { out.new ≡ spliced at (tagged tag fields ∷ []) out.old }
 {
     out[at] = tag.number() * 268435456 + fields;

@@ -12,7 +12,7 @@ end_fits : (c : After-put_links-next) → (c.put_links-next.result + (raw c.args
 end_fits c = end_room c.args.self.now.writing _ _ c.put_links-next.ensures.next c.requires
 
 pub put-requires : goal.put-requires
-put-requires c = let w = c.args.self.now.writing in (omega (arith, head_room w _ c.requires), omega (arith, kinds_known w))
+put-requires c = let w = c.args.self.now.writing in record { room = omega (arith, head_room w _ c.requires); small = omega (arith, kinds_known w) }
 
 pub put_each-requires : goal.put_each-requires
 put_each-requires c =
@@ -40,7 +40,7 @@ pub put-requires-2 : goal.put-requires-2
 put-requires-2 c =
     let n = end_fits (goal.at.put-requires-2 c).After-put_links-next in
     let e = c.put_landings-end.ensures.next in
-    (omega (arith, n.0), omega (arith, n.1))
+    record { room = omega (arith, n.0); small = omega (arith, n.1) }
 
 pub overflow_add-result : goal.overflow_add-result
 overflow_add-result c = omega (arith, (end_fits (goal.at.overflow_add-result c).After-put_links-next).1, c.put_landings-end.ensures.next)

@@ -23,7 +23,7 @@ pub overflow_add-n-2 : goal.overflow_add-n-2
 overflow_add-n-2 c = omega (arith, fits (goal.at.overflow_add-n-2 c).After-mapped-to)
 
 pub put-requires : goal.put-requires
-put-requires c = (omega arith, fits (goal.at.put-requires c).After-mapped-to)
+put-requires c = record { room = omega arith; small = fits (goal.at.put-requires c).After-mapped-to }
 
 pub put_each-requires-clause-asked : goal.put_each-requires-clause-asked
 put_each-requires-clause-asked c q h = let n = numbered (goal.at.put_each-requires-clause-asked c).After-mapped-to q h in search rules

@@ -13,7 +13,7 @@ room : (c : After-ends-from) → c.args.at + 1 + get_or c.args.self.now.numberin
 room c = link_room c.args.self.now.writing c.requires.l_lt_links _ (leaves c) c.args.at _ c.requires.always
 
 pub put-requires : goal.put-requires
-put-requires c = (omega (arith, room (goal.at.put-requires c).After-ends-from), omega (arith, c.ends-from.ensures.small.0, c.ends-from.ensures.small.1))
+put-requires c = record { room = omega (arith, room (goal.at.put-requires c).After-ends-from); small = omega (arith, c.ends-from.ensures.small.0, c.ends-from.ensures.small.1) }
 
 pub overflow_add-at : goal.overflow_add-at
 overflow_add-at c = omega (arith, room (goal.at.overflow_add-at c).After-ends-from)

@@ -23,7 +23,7 @@ pub number_in-n-requires : goal.number_in-n-requires
 number_in-n-requires c = lead_numbered (raw c.args.rows.now) c.args.from c.args.link c.args.i c.read-e.result c.read-e.ensures (c.args.i + 1) c.requires.led (omega arith) (sym c.kind.ensures ∙ c.if-kind-from.false)
 
 pub put-requires : goal.put-requires
-put-requires c = (omega (arith, ap length (is_record (goal.at.put-requires c).Else-kind-from)), omega (arith, c.number_in-n.ensures.fits))
+put-requires c = record { room = omega (arith, ap length (is_record (goal.at.put-requires c).Else-kind-from)); small = omega (arith, c.number_in-n.ensures.fits) }
 
 pub returns : goal.returns
 returns c =

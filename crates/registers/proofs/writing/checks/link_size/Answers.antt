@@ -1,9 +1,10 @@
-use Rattle.std.proofs.Common.{arith}
-use Rattle.registers.proofs.WrittenParts.{row_length, row_none}
+use Rattle.std.proofs.Common.{◌≡◌, ◌+◌, ◌∙◌, rules, tests}
+use Rattle.std.specs.Option.{option_map_or}
+use Rattle.registers.proofs.WrittenParts.{row_size}
 use Rattle.registers.proofs.writing.checks.link_size.Goals as goal
 
-pub returns-in-Some : goal.returns-in-Some
-returns-in-Some g c = let n = row_length (g.R.Register.meaning c.args.register.now) c.args.link c.in-Some.from c.in-Some.field-0-1 c.in-Some.ensures in record { words = omega arith; fits = omega arith }
-
-pub returns-in-None : goal.returns-in-None
-returns-in-None g c = record { words = row_none _ _ c.in-None.ensures; fits = omega arith }
+pub returns-clause-words : goal.returns-clause-words
+returns-clause-words g c =
+    let m = g.R.Register.meaning c.args.register.now in
+    let s : c.map_or.result ≡ option_map_or (λ e. 1 + m.count e.0) c.ends.result 1 = search (rules, tests) in
+    s ∙ row_size m c.args.link c.ends.result c.ends.ensures

@@ -5,7 +5,7 @@ use Rattle.registers.proofs.WrittenParts.{tagged_more}
 use Rattle.registers.proofs.writing.each.put_each.Goals as goal
 
 pub put-requires : goal.put-requires
-put-requires g c = (omega arith, c.requires.small c.loop-i.i _ c.loop-i-test.true c.fields.ensures)
+put-requires g c = record { room = omega arith; small = c.requires.small c.loop-i.i _ c.loop-i-test.true c.fields.ensures }
 
 pub loop-i-init : goal.loop-i-init
 unfolding upto

@@ -4,7 +4,7 @@ use Rattle.registers.proofs.WrittenFiles.{file_fits}
 use Rattle.registers.proofs.writing.parts.Tested.put_file.Goals as goal
 
 pub put-requires : goal.put-requires
-put-requires g c = let n = file_length (g.R.Register.meaning c.args.self.now.register.now) in (omega arith, omega (arith, c.args.self.now.writable.few_kinds))
+put-requires g c = let n = file_length (g.R.Register.meaning c.args.self.now.register.now) in record { room = omega arith; small = omega (arith, c.args.self.now.writable.few_kinds) }
 
 pub put_counts-requires : goal.put_counts-requires
 put_counts-requires g c = let n = file_length (g.R.Register.meaning c.args.self.now.register.now) in omega arith
@@ -19,7 +19,7 @@ pub put-requires-2 : goal.put-requires-2
 put-requires-2 g c =
     let n = file_length (g.R.Register.meaning c.args.self.now.register.now) in
     let s = file_fits _ c.args.self.now.writable in
-    (omega arith, omega arith)
+    record { room = omega arith; small = omega arith }
 
 pub overflow_add-result : goal.overflow_add-result
 overflow_add-result g c = let s = file_fits _ c.args.self.now.writable in omega arith

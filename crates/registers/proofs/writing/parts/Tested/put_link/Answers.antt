@@ -8,7 +8,7 @@ put-requires g c =
     let m = g.R.Register.meaning c.args.self.now.register.now in
     let n = row_length m c.args.link c.in-Some.from c.in-Some.to c.in-Some.ensures in
     let s = ends_fit m c.args.self.now.writable c.args.link c.in-Some.from c.in-Some.to c.requires.known c.in-Some.ensures in
-    (omega arith, omega (arith, s.0, s.1))
+    record { room = omega arith; small = omega (arith, s.0, s.1) }
 
 pub put_records-requires : goal.put_records-requires
 put_records-requires g c =
