@@ -1,7 +1,7 @@
 // The reader of register files.
 #![tactic(auto)]
 
-ghost use Rattle.std.specs.Prelude.{◌≡◌, ◌+◌, ◌<◌, ◌≤◌, length, slice_index};
+ghost use Rattle.std.specs.Prelude.{◌≡◌, ◌+◌, ◌-◌, ◌<◌, ◌≤◌, length, slice_index};
 ghost use Rattle.register_files.specs.Register.{count as count_of, counted as counted_of, link as link_of, landing as landing_of, span, counts_of, links_of, landings_of, read};
 ghost use Rattle.words.specs.Items.{one_word, run, sized, behind, ended, outlined as outlined_of};
 ghost use Rattle.register_files.specs.Outline.{Counted, counts_got, outline_of};
@@ -18,7 +18,7 @@ const KINDS: u32 = 32;
 
 pub const LINKS: usize = 64;
 
-const LANDINGS: usize = 32;
+const LANDINGS: u32 = 32;
 
 // One record word, which names one of that many records.
 fn counted(words: &[u32], at: usize, size: u32) -> Result<u32, SchemaFault>
@@ -100,16 +100,15 @@ impl<'a> Headed<'a> {
         records(self.words, at + 1, n, size)
     }
 
-    // The landings of a source kind, where there is room for one; tells the place behind them.
-    fn landing(&self, room: usize, at: usize) -> Result<usize, SchemaFault>
-        requires { room ≤ 32 }
-        ensures { result ≡ behind span at (landing_of (counts_got self.now.words.now) self.now.words.now room at) }
+    // The landings of a source kind, where there is room for them; tells the place behind them.
+    fn landing(&self, source: u32, at: usize) -> Result<usize, SchemaFault>
+        ensures { result ≡ behind span at (landing_of (counts_got self.now.words.now) self.now.words.now (32 - source) at) }
     {
         let v = word(self.words, at, Tag::Landings)?;
-        if room == 0 {
+        if source >= LANDINGS {
             return Err(WordFault::Limit(at).into());
         }
-        if (v / 256 % 256) as usize + room != LANDINGS || v % 256 >= self.kinds {
+        if v / 256 % 256 != source || v % 256 >= self.kinds {
             return Err(SchemaFault::Unknown(at));
         }
         let size = self.count(v % 256);
@@ -134,11 +133,12 @@ impl<'a> Headed<'a> {
     fn landings(&self, start: usize) -> Result<usize, SchemaFault>
         ensures { result ≡ ended span start (landings_of (counts_got self.now.words.now) self.now.words.now start) }
     {
+        // Counted by hand, since landings have many sizes: where they stand does not say how many there were.
         let mut at = start;
-        let mut room = LANDINGS;
+        let mut source = 0;
         while starts(self.words, at, Tag::Landings) {
-            at = self.landing(room, at)?;
-            room -= 1;
+            at = self.landing(source, at)?;
+            source += 1;
         }
         Ok(at)
     }
