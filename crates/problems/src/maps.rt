@@ -39,11 +39,11 @@ impl Sides<'_> {
     pub(crate) fn kind_maps(&self, start: usize) -> Result<usize, SchemaFault>
         ensures { result ≡ ended one_word start (kind_maps_in self.now start) }
     {
-        let mut at = start;
-        for kind in 0..self.source.schema.kinds {
-            at = self.kind_map(kind, at)?;
+        let n = self.source.schema.kinds;
+        for kind in 0..n {
+            let _ = self.kind_map(kind, start + kind as usize)?;
         }
-        Ok(at)
+        Ok(start + n as usize)
     }
 }
 

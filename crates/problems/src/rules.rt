@@ -36,6 +36,7 @@ impl Links<'_> {
     }
 
     // Where the rules stand, and the place behind the last.
+    // The same loop as that of a register's links, and no function over a closure: the proof of each is about its own reader.
     pub(crate) fn rules(&self, start: usize) -> Result<(Bounded<usize, RULES>, usize), SchemaFault>
         ensures { shown result ≡ outlined rule_size start (rules_in self.now start) }
     {

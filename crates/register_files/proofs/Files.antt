@@ -1,14 +1,13 @@
 -- A register file as a whole, and as the code reads it.
-use Rattle.std.proofs.Common.{◌≡◌, ℕ, suc, ◌+◌, ◌-◌, ◌<◌, Bool, true, List, [], ◌∷◌, length, zero-add, Ok, Err, Result, sym, refl, ap, ◌∙◌, arith}
-use Rattle.std.proofs.Math.Nat.{sub-zero}
+use Rattle.std.proofs.Common.{◌≡◌, ℕ, suc, ◌+◌, ◌-◌, List, [], ◌∷◌, length, Ok, Err, Result, sym, refl, ap, ◌∙◌, arith}
 use Rattle.std.proofs.lemmas.Bool.Decides.{nat_tests}
 use Rattle.words.specs.declared.faults.SchemaFault.{SchemaFault}
 use Rattle.words.specs.Words.{worded, then, starts, end}
 use Rattle.words.specs.declared.tags.Tag.TheVariants as tag
-use Rattle.words.specs.Items.{items, sizes, outlined, ended, places, prepended, behind}
+use Rattle.words.specs.Items.{items, sizes, outlined, ended, places, prepended}
 use Rattle.register_files.specs.Register.{Row, File, link, span, counts_of, links_of, landings_of, behind_landings, behind_links, behind_counts, read}
 use Rattle.register_files.specs.Outline.{Counted, counts_got, outline_of}
-use Rattle.words.proofs.Items.{prepended_none, ended_turn}
+use Rattle.words.proofs.Items.{prepended_none}
 use Rattle.words.proofs.Inverse.{then_ok, worded_ok, err_ok}
 use Rattle.register_files.proofs.Parts.{known_read, known_length}
 
@@ -99,11 +98,6 @@ module _ (ws : List ℕ) where
       sym (ap (λ t. Ok (t.0, t.1, t.2)) (triple g m q))
       ∙ sym (ap (λ r. outline_of (then (worded r) (λ _. Ok (record { counts = counts_got ws; links = x.0; landings = (ended_ok next (landings_of (counts_got ws) ws next) last b).0 })))) d)
       ∙ ap outline_of (past_landings kinds next last ps k e b)
-
--- there is one place less
-pub room_turn : {X : Type 0} (size : X → ℕ) (more : ℕ → ℕ → Bool) (f : ℕ → ℕ → Result X SchemaFault) (n at next : ℕ) → more n at ≡ true → 0 < n → behind size at (f n at) ≡ Ok next
-    → ended size next (items size more f (n - 1) next) ≡ ended size at (items size more f n at)
-room_turn size more f n at next s h b = simp (sub-zero, zero-add) at (ended_turn size more f n 0 at next (simp sub-zero s) h (simp sub-zero b))
 
 pub links_start : (ws : List ℕ) (kinds : ℕ) (ps : List ℕ) → Counted ws kinds → ps ≡ []
     → prepended ps (outlined span (1 + kinds) (items span (λ room p. starts tag.RegisterLink ws p) (link (counts_got ws) ws) (64 - length ps) (1 + kinds))) ≡ outlined span (1 + kinds) (links_of (counts_got ws) ws)

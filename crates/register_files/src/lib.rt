@@ -1,8 +1,7 @@
 // The reader of register files.
 #![tactic(auto)]
 
-ghost use Rattle.std.specs.Prelude.{◌≡◌, ◌+◌, ◌-◌, ◌/◌, ◌%◌, ◌<◌, ◌≤◌, length, IfOk, slice_index};
-ghost use Rattle.words.specs.declared.faults.SchemaFault.TheVariants.{Words};
+ghost use Rattle.std.specs.Prelude.{◌≡◌, ◌+◌, ◌-◌, ◌<◌, ◌≤◌, length, slice_index};
 ghost use Rattle.register_files.specs.Register.{count as count_of, counted as counted_of, link as link_of, landing as landing_of, span, counts_of, links_of, landings_of, read};
 ghost use Rattle.words.specs.Items.{one_word, run, sized, behind, ended, outlined as outlined_of};
 ghost use Rattle.register_files.specs.Outline.{Counted, counts_got, outline_of};
@@ -19,7 +18,7 @@ const KINDS: u32 = 32;
 
 pub const LINKS: usize = 64;
 
-const LANDINGS: usize = 32;
+const LANDINGS: u32 = 32;
 
 // One record word, which names one of that many records.
 fn counted(words: &[u32], at: usize, size: u32) -> Result<u32, SchemaFault>
@@ -76,13 +75,6 @@ struct Headed<'a> {
     ghost counted: { Counted words.now kinds },
 }
 
-// Where the links stand, and the place behind the last.
-#[derive(Clone, Copy)]
-struct LinkPlaces {
-    places: Bounded<usize, LINKS>,
-    next: usize,
-}
-
 impl<'a> Headed<'a> {
     // The count of a kind.
     fn count(&self, kind: u32) -> u32
@@ -108,23 +100,24 @@ impl<'a> Headed<'a> {
         records(self.words, at + 1, n, size)
     }
 
-    // The landings of a source kind, where there is room for one; tells the place behind them.
-    fn landing(&self, room: usize, at: usize) -> Result<usize, SchemaFault>
-        requires { room ≤ 32 }
-        ensures { result ≡ behind span at (landing_of (counts_got self.now.words.now) self.now.words.now room at) }
+    // The landings of a source kind, where there is room for them; tells the place behind them.
+    fn landing(&self, source: u32, at: usize) -> Result<usize, SchemaFault>
+        ensures { result ≡ behind span at (landing_of (counts_got self.now.words.now) self.now.words.now (32 - source) at) }
     {
         let v = word(self.words, at, Tag::Landings)?;
-        if room == 0 {
+        if source >= LANDINGS {
             return Err(WordFault::Limit(at).into());
         }
-        if (v / 256 % 256) as usize + room != LANDINGS || v % 256 >= self.kinds {
+        if v / 256 % 256 != source || v % 256 >= self.kinds {
             return Err(SchemaFault::Unknown(at));
         }
         let size = self.count(v % 256);
         records(self.words, at + 1, v / 65536, size)
     }
 
-    fn links(&self) -> Result<LinkPlaces, SchemaFault>
+    // Where the links stand, and the place behind the last.
+    // The same loop as that of a problem's rules, and no function over a closure: the proof of each is about its own reader.
+    fn links(&self) -> Result<(Bounded<usize, LINKS>, usize), SchemaFault>
         ensures { shown result ≡ outlined_of span (1 + self.now.kinds) (links_of (counts_got self.now.words.now) self.now.words.now) }
     {
         let mut at = 1 + self.kinds as usize;
@@ -134,17 +127,18 @@ impl<'a> Headed<'a> {
             places.push(at);
             at = next;
         }
-        Ok(LinkPlaces { places, next: at })
+        Ok((places, at))
     }
 
     fn landings(&self, start: usize) -> Result<usize, SchemaFault>
         ensures { result ≡ ended span start (landings_of (counts_got self.now.words.now) self.now.words.now start) }
     {
+        // Counted by hand, since landings have many sizes: where they stand does not say how many there were.
         let mut at = start;
-        let mut room = LANDINGS;
+        let mut source = 0;
         while starts(self.words, at, Tag::Landings) {
-            at = self.landing(room, at)?;
-            room -= 1;
+            at = self.landing(source, at)?;
+            source += 1;
         }
         Ok(at)
     }
@@ -163,13 +157,10 @@ fn outlined(words: &[u32]) -> Result<Outline, SchemaFault>
 {
     let kinds = kinds(words)?;
     let read = Headed { words, kinds };
-    let links = read.links()?;
-    let last = read.landings(links.next)?;
+    let (links, next) = read.links()?;
+    let last = read.landings(next)?;
     let _ = end(words, last)?;
-    Ok(Outline {
-        kinds,
-        links: links.places,
-    })
+    Ok(Outline { kinds, links })
 }
 
 // Reads a register file. It accepts exactly the words that are the layout of a well-formed file.

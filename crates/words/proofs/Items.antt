@@ -1,6 +1,5 @@
 -- Items, read one by one.
-use Rattle.std.proofs.Common.{◌≡◌, ℕ, zero, suc, ◌+◌, ◌-◌, ◌<◌, ◌≤◌, Bool, true, false, cond, ltb, List, [], ◌∷◌, ◌++◌, length, get_or, take, set, Ok, Err, Result, sym, refl, ap, ◌∙◌, append_assoc, append-nil, add-zero, add_assoc, arith, length-append}
-use Rattle.std.proofs.lemmas.List.{take_more_set}
+use Rattle.std.proofs.Common.{◌≡◌, ℕ, zero, suc, ◌+◌, ◌-◌, ◌<◌, ◌≤◌, Bool, true, false, cond, ltb, List, [], ◌∷◌, ◌++◌, length, get_or, Ok, Err, Result, sym, refl, ap, ◌∙◌, append_assoc, append-nil, add-zero, add_assoc, arith, length-append}
 use Rattle.std.proofs.lemmas.Bool.Decides.{nat_tests}
 use Rattle.words.specs.declared.faults.SchemaFault.{SchemaFault}
 use Rattle.words.specs.Words.{then}
@@ -84,14 +83,6 @@ module _ {X : Type 0} (size : X → ℕ) (more : ℕ → ℕ → Bool) (f : ℕ 
 
   pub items_done : (m at : ℕ) (ps : List ℕ) → more m at ≡ false → prepended ps (outlined size at (items size more f m at)) ≡ Ok (ps, at)
   items_done m at ps s = ap (λ r. prepended ps (outlined size at r)) (items_none m at s) ∙ simp (append-nil, add-zero)
-
-  -- one more place is written behind those that stand
-  pub items_turn : (n c at next : ℕ) (ps : List ℕ) → more (n - c) at ≡ true → c < n → c < length ps → behind size at (f (n - c) at) ≡ Ok next
-      → prepended (take (c + 1) (set ps c at)) (outlined size next (items size more f (n - (c + 1)) next)) ≡ prepended (take c ps) (outlined size at (items size more f (n - c) at))
-  items_turn n c at next ps s h l b =
-      ap (λ qs. prepended qs (outlined size next (items size more f (n - (c + 1)) next))) (take_more_set ps c at l)
-      ∙ prepended_twice (take c ps) (at ∷ []) (outlined size next (items size more f (n - (c + 1)) next))
-      ∙ ap (prepended (take c ps)) (sym (items_more n c at next s h b))
 
   -- one more place is kept behind those that there are
   pub items_push : (n at next : ℕ) (ps : List ℕ) → more (n - length ps) at ≡ true → length ps < n → behind size at (f (n - length ps) at) ≡ Ok next

@@ -1,5 +1,5 @@
 // One word, read by its tag; and the end of a file.
-ghost use Rattle.std.specs.Prelude.{◌≡◌, ◌%◌, slice_index};
+ghost use Rattle.std.specs.Prelude.{◌≡◌, slice_index};
 ghost use Rattle.words.specs.Words.{word as word_of, fields, starts as starts_of, end as end_of};
 
 use crate::faults::WordFault;

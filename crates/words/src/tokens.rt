@@ -10,6 +10,7 @@ use crate::tags::Tag;
 #[derive(Clone, Copy)]
 pub enum Token<'a> {
     Schema {
+        // The number, and no side: a token shows the word as it is, whatever its side says.
         side: u32,
         kinds: u32,
     },

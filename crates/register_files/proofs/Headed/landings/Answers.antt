@@ -1,9 +1,8 @@
-use Rattle.std.proofs.Common.{sym, ◌∙◌, arith}
+use Rattle.std.proofs.Common.{◌-◌, ◌<◌, sym, ◌∙◌, arith}
 use Rattle.std.proofs.lemmas.Result.{err_from_is_err_and}
 use Rattle.register_files.specs.Outline.{counts_got}
 use Rattle.register_files.proofs.Parts.{landing_room}
-use Rattle.words.proofs.Items.{behind_ok, ended_stop, ended_done}
-use Rattle.register_files.proofs.Files.{room_turn}
+use Rattle.words.proofs.Items.{behind_ok, ended_turn, ended_stop, ended_done}
 use Rattle.register_files.proofs.Headed.landings.Goals as goal
 
 pub returns-in_err-at : goal.returns-in_err-at
@@ -12,21 +11,13 @@ returns-in_err-at c =
     let e = sym c.landing.ensures ∙ c.in_err-at.was in
     rw (p.1, p.2) (sym (ended_stop _ _ _ _ _ _ (sym c.loop-at-test.ensures) e) ∙ c.loop-at.invariant.told)
 
-pub overflow_sub-room : goal.overflow_sub-room
-overflow_sub-room c =
-    let ws = c.args.self.now.words.now in
-    let x = behind_ok _ _ _ _ (sym c.landing.ensures ∙ c.in_ok-at.was) in
-    landing_room (counts_got ws) ws c.loop-at.room c.loop-at.at x.0 x.1
-
 pub loop-at-preserved : goal.loop-at-preserved
 loop-at-preserved c =
     let ws = c.args.self.now.words.now in
     let e = sym c.landing.ensures ∙ c.in_ok-at.was in
-    let x = behind_ok _ _ _ _ e in
-    record {
-      few = omega arith;
-      told = room_turn _ _ _ _ _ _ (sym c.loop-at-test.ensures) (landing_room (counts_got ws) ws c.loop-at.room c.loop-at.at x.0 x.1) e ∙ c.loop-at.invariant.told;
-    }
+    let w = let x = behind_ok _ _ _ _ e in landing_room (counts_got ws) ws (32 - c.loop-at.source) c.loop-at.at x.0 x.1 in
+    let h : c.loop-at.source < 32 = omega (arith, w) in
+    record { few = omega arith; told = ended_turn _ _ _ _ _ _ _ (sym c.loop-at-test.ensures) h e ∙ c.loop-at.invariant.told }
 
 pub returns : goal.returns
 returns c = sym (ended_done _ _ _ _ _ (sym c.loop-at-test.ensures)) ∙ c.loop-at.invariant.told

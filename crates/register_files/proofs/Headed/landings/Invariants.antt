@@ -10,8 +10,8 @@ abbrev pub invariant-loop-at : goal.invariant-loop-at
 invariant-loop-at l =
     let ws = l.self.words.now in
     record {
-      few : l.room ≤ 32;
-      told : ended span l.at (items span (λ room p. starts tag.Landings ws p) (landing (counts_got ws) ws) l.room l.at) ≡ ended span l.start (landings_of (counts_got ws) ws l.start);
+      few : l.source ≤ 32;
+      told : ended span l.at (items span (λ room p. starts tag.Landings ws p) (landing (counts_got ws) ws) (32 - l.source) l.at) ≡ ended span l.start (landings_of (counts_got ws) ws l.start);
     }
 
 abbrev pub decreases-loop-at : goal.decreases-loop-at
