@@ -62,7 +62,7 @@ impl Rows<'_> {
     pub fn leaves(&self, e: u32, l: u32, from: u32) -> bool
         ensures { result ≡ (lives (view self.now) e && (nat_lt l self.now.links && (view self.now).kind e == from)) }
     {
-        self.lives(e) && (l as usize) < self.links && self.kind(e) == from
+        self.lives_as(e, from) && (l as usize) < self.links
     }
 
     // A new entry of the kind `to` at the cell of `e` and the link `l`, which leads from the kind `from`.

@@ -36,7 +36,8 @@ impl Source {
         self.kinds.len()
     }
 
-    // The kind `k`; one of no records where there is no such kind.
+    // The kind `k`; one of no records where there is no such kind. No `Option`: by the laws of registers a number of no kind counts
+    // no records, so that who compares a record's number with the count needs no test of the kind.
     pub fn kind(&self, k: u32) -> SourceKind
         ensures records { result.records ≡ slice_index (counts_of self.now) k }
         ensures start { result.start ≡ slice_index (starts_of self.now) k }
@@ -115,9 +116,7 @@ impl Rows<'_> {
     {
         match t {
             Slot::Cell(e, l) => (e as usize) < self.given && (l as usize) < self.links,
-            Slot::Landing(k, q) => {
-                (k as usize) < self.source.len() && q < self.source.kind(k).records
-            }
+            Slot::Landing(k, q) => q < self.source.kind(k).records,
         }
     }
 

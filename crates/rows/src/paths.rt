@@ -53,7 +53,8 @@ impl Rows<'_> {
         parts_in(rule_at(&self.words[..self.lands], found, i))
     }
 
-    // The path of the source link `i`, which is empty where there is no such link.
+    // The path of the source link `i`, which is empty where there is no such link. No `Option`: who asks has a lead along the link,
+    // so that there is one, and a `None` would add a branch that gives up and is never taken.
     pub fn link_path<'b>(&'b self, found: &Found, i: usize) -> &'b [u32]
         ensures { (L : Loaded) → Stands L (raw self.now) found.now → links result.now ≡ L.link_map i }
     {
@@ -64,7 +65,7 @@ impl Rows<'_> {
     }
 
     // Whether `e` lives and has that kind.
-    fn lives_as(&self, e: u32, kind: u32) -> bool
+    pub(crate) fn lives_as(&self, e: u32, kind: u32) -> bool
         ensures { result ≡ (lives (view self.now) e && (view self.now).kind e == kind) }
     {
         self.lives(e) && self.kind(e) == kind

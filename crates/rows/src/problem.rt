@@ -20,16 +20,15 @@ pub struct Load {
 }
 
 impl Rows<'_> {
-    // The ends of the target link `l`; any of a link that there is not. No `Option`, as for the two questions below: who asks knows that
-    // there is such a number or refuses it by a test of its own, so a `None` would only add branches that nothing takes.
+    // The ends of the target link `l`; any of a link that there is not. No `Option`, as for the two questions below: who asks knows that there is
+    // such a number, or tests it in an order of its own: `define` refuses for waiting entries first, and `leaves` tests the link in any case.
     pub fn link_ends(&self, found: &Found, l: u32) -> (u32, u32)
         ensures { (L : Loaded) → Stands L (raw self.now) found.now → l < L.links → (L.from l ≡ result.0) × (L.to l ≡ result.1) }
     {
         found.target.ends(self.words, l).unwrap_or((0, 0))
     }
 
-    // The target kind of the source kind `k`; any of a kind that there is not. The reader of problems has the same expression for kind maps
-    // that it is still reading; a call for both would be longer.
+    // The target kind of the source kind `k`, any of a kind that there is not, in the words of the reader of problems (a call for both would be longer).
     pub fn mapped(&self, found: &Found, k: u32) -> u32
         ensures { (L : Loaded) → Stands L (raw self.now) found.now → k < L.source_kinds → L.kind_map k ≡ result }
     {

@@ -1,5 +1,5 @@
 // Merging, and settling the first that waits.
-ghost use Rattle.std.specs.Prelude.{◌≡◌, ◌+◌, ◌<◌, map, slice_index};
+ghost use Rattle.std.specs.Prelude.{◌≡◌, ◌<◌, map, slice_index};
 ghost use Rattle.machine.specs.Loaded.{Loaded};
 ghost use Rattle.machine.specs.Merging.{merge};
 ghost use Rattle.machine.specs.Settling.{rehold, take_over, pull, drain, settled};

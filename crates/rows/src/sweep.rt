@@ -1,7 +1,8 @@
 // Sweeping, in place: the new numbers are written into the slots of the waiting list, which are free while nothing waits;
 // then what cells and landings hold is renamed; then the rows of the living are moved down.
-// `Still` and `Ranked` are conditions: a struct that holds the rows by `&mut`, with the two as facts, would have each step say that it kept the reference.
-// The loops carry the next number by hand: the closure of a fold cannot write the rows.
+// `Still` and `Ranked` are conditions: numbering reaches `Ranked` entry by entry, renaming keeps it and packing ends it, so that a struct with both
+// as facts, like numbering's `Count` with its one, would be for the renaming alone.
+// The loops carry the next number by hand: of rows that the closure of a fold writes, a proof knows nothing afterwards.
 ghost use Rattle.std.specs.Prelude.{◌≡◌, ◌+◌, ◌-◌, ◌<◌, ◌≤◌, if◌then◌else◌, nat_eq};
 ghost use Rattle.machine.specs.State.{same};
 ghost use Rattle.machine.specs.Sweeping.{rank, swept};

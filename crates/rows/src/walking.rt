@@ -1,7 +1,7 @@
 // Walking a path through the filled cells of a table.
 ghost use Rattle.std.specs.Prelude.{◌≡◌, []};
 ghost use Rattle.machine.specs.Walking.{walk, walk_in};
-ghost use Rattle.rows.specs.View.{raw, view, slot};
+ghost use Rattle.rows.specs.View.{view, slot};
 ghost use Rattle.rows.specs.Walks.{links, ended_at, side_of, shown_side};
 
 use crate::{Rows, Slot};

@@ -38,7 +38,8 @@ pub fn next(rows: &Rows, load: &Load) -> Option<Task>
         return Some(Task::Settle);
     }
     let search = Search { rows, load };
-    // Not `or_else`: the check learns nothing of what its closure answers where that borrows a value with a lifetime.
+    // Not `or_else`, here or in a method of `Search`: the check tells nothing of what its closure answers where that captures `search`,
+    // by reference or by `move`; a clause on the closure changes nothing.
     if let Some(task) = search.links() {
         return Some(task);
     }
