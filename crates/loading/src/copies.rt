@@ -35,7 +35,7 @@ fn put_link<R: Register>(out: &mut [u32], source: &R, link: u32)
 }
 
 impl<R: Register> Offer<'_, '_, R> {
-    // Puts where the source's links lead.
+    // Puts where the source's links lead. A loop that carries the place: only how many records a link leaves tells where the next begins.
     pub(crate) fn put_links(&self, out: &mut [u32], at: usize)
         requires { at + sum (leaving (problem_in self.now.problem.now) (R.meaning self.now.source.now).count) self.now.schema.links ≤ length out.old }
         ensures { out.new ≡ spliced at (lead_words (problem_in self.now.problem.now) (R.meaning self.now.source.now) self.now.schema.links) out.old }
