@@ -9,6 +9,7 @@ use std::process::Abort;
 use table::table::Table;
 use words::faults::Refusal;
 
+// A match and no closure in the row: rows are constants, each a call with its answer.
 fn told(table: &mut Table, call: Call, a: u32, b: u32) -> Result<Told, Refusal> {
     match call {
         Call::Land => table.land(a, b).map(Told::Number),

@@ -10,6 +10,7 @@ use registers::wheel::Wheel;
 use std::process::Abort;
 use words::faults::Fault;
 
+// A match and no closure in the row: rows are constants, each a question with its answer.
 fn answers<R: Register>(rt: &impl Abort, register: &R, row: usize, ask: Ask) {
     match ask {
         Ask::Kinds(n) => {

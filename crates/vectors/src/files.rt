@@ -7,7 +7,7 @@ use std::process::Abort;
 use std::test::Fail;
 use words::faults::{Fault, Refusal};
 
-// Which reader reads.
+// Which reader reads. A name and no closure: a trial of either is one type, and its methods ask nothing of what they call.
 #[derive(Clone, Copy)]
 pub enum Reader {
     Register,
