@@ -1,5 +1,6 @@
 // What a load is offered, and what is tested of it before it is taken.
 ghost use Rattle.std.specs.Prelude.{◌≡◌, ◌<◌, length, take, Some};
+ghost use Rattle.registers.specs.Meaning.{Lawful};
 ghost use Rattle.registers.specs.Writing.{some_below, lowest, upto};
 ghost use Rattle.machine.specs.Loading.{source_link, other_ends, other_shape, link_strays};
 ghost use Rattle.loading.specs.LoadedWords.{problem_in, Sourced, leaving};
@@ -64,7 +65,8 @@ impl<R: Register> Offer<'_, '_, R> {
 
     // Whether the source has other kinds, links or ends than the schema.
     pub(crate) fn other_shape(&self) -> bool
-        ensures { result ≡ other_shape (problem_in self.now.problem.now) (R.meaning self.now.source.now) }
+        ensures answer { result ≡ other_shape (problem_in self.now.problem.now) (R.meaning self.now.source.now) }
+        ensures lawful { Lawful (R.meaning self.now.source.now) }
     {
         self.source.kinds() != self.schema.kinds
             || self.source.links() as usize != self.schema.links

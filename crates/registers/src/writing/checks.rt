@@ -1,5 +1,6 @@
 // What is tested before a register is written.
 ghost use Rattle.std.specs.Prelude.{◌≡◌, ◌≤◌, length};
+ghost use Rattle.registers.specs.Meaning.{Lawful};
 ghost use Rattle.registers.specs.Writing.{crowded, large, astray as astray_of, strays as strays_of, broken, lowest};
 ghost use Rattle.registers.specs.Parts.{file_words, row_words, links_words};
 
@@ -14,7 +15,8 @@ fn is_crowded<R: Register>(register: &R) -> bool
 
 // Whether a register passes the limits of a register file.
 pub(crate) fn is_large<R: Register>(register: &R) -> bool
-    ensures { result ≡ large (R.meaning register.now) }
+    ensures answer { result ≡ large (R.meaning register.now) }
+    ensures lawful { Lawful (R.meaning register.now) }
 {
     register.kinds() > 32 || register.links() > 64 || is_crowded(register)
 }
