@@ -39,7 +39,13 @@ impl<R: Register> Offer<'_, '_, R> {
     pub(crate) fn counts(&self) -> [u32; 32]
         ensures { take self.now.schema.kinds result ≡ upto (R.meaning self.now.source.now).count self.now.schema.kinds }
     {
-        from_fn(|kind| self.source.count(kind as u32))
+        from_fn(|kind| {
+            if (kind as u32) < self.schema.kinds {
+                self.source.count(kind as u32)
+            } else {
+                0
+            }
+        })
     }
 
     // How many records each source link leaves.
