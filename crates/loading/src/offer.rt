@@ -1,5 +1,6 @@
 // What a load is offered, and what is tested of it before it is taken.
 ghost use Rattle.std.specs.Prelude.{◌≡◌, ◌<◌, length, take, Some};
+ghost use Rattle.registers.specs.Meaning.{Lawful};
 ghost use Rattle.registers.specs.Writing.{some_below, lowest, upto};
 ghost use Rattle.machine.specs.Loading.{source_link, other_ends, other_shape, link_strays};
 ghost use Rattle.loading.specs.LoadedWords.{problem_in, Sourced, leaving};
@@ -38,7 +39,13 @@ impl<R: Register> Offer<'_, '_, R> {
     pub(crate) fn counts(&self) -> [u32; 32]
         ensures { take self.now.schema.kinds result ≡ upto (R.meaning self.now.source.now).count self.now.schema.kinds }
     {
-        from_fn(|kind| self.source.count(kind as u32))
+        from_fn(|kind| {
+            if (kind as u32) < self.schema.kinds {
+                self.source.count(kind as u32)
+            } else {
+                0
+            }
+        })
     }
 
     // How many records each source link leaves.
@@ -64,7 +71,8 @@ impl<R: Register> Offer<'_, '_, R> {
 
     // Whether the source has other kinds, links or ends than the schema.
     pub(crate) fn other_shape(&self) -> bool
-        ensures { result ≡ other_shape (problem_in self.now.problem.now) (R.meaning self.now.source.now) }
+        ensures answer { result ≡ other_shape (problem_in self.now.problem.now) (R.meaning self.now.source.now) }
+        ensures lawful { Lawful (R.meaning self.now.source.now) }
     {
         self.source.kinds() != self.schema.kinds
             || self.source.links() as usize != self.schema.links

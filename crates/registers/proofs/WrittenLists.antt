@@ -1,5 +1,5 @@
 -- Tests of the numbers below a limit, and lists made by count.
-use Rattle.std.proofs.Common.{◌≡◌, ℕ, zero, suc, ◌<◌, ◌≤◌, Bool, true, false, cond, List, [], ◌∷◌, length, get_or, Some, None, Option, sym, refl, ap, ◌∙◌, ⊎_elim, arith, length-append}
+use Rattle.std.proofs.Common.{◌≡◌, ℕ, zero, suc, ◌+◌, ◌<◌, ◌≤◌, Bool, true, false, cond, List, [], ◌∷◌, length, get_or, Some, None, Option, sym, refl, ap, ◌∙◌, ⊎_elim, add-one, arith, length-append}
 use Rattle.std.specs.List.{AllByRecursion}
 use Rattle.std.proofs.lemmas.List.{get_or_append_left, get_or_push, ext_get_or}
 use Rattle.std.proofs.ByRecursion.{All-push}
@@ -22,6 +22,10 @@ cond_none true n e = absurd (some_none e)
 cond_none false n e = refl
 
 module _ (p : ℕ → Bool) where
+  pub none_more : (n : ℕ) → some_below p n ≡ false → p n ≡ false → some_below p (n + 1) ≡ false
+  unfolding some_below
+  none_more n h k = rw add-one (or_from _ _ h k)
+
   pub some_found : (k n : ℕ) → k < n → p k ≡ true → true ≡ some_below p n
   unfolding some_below
   some_found k zero h e = absurd (omega arith)

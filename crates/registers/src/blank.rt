@@ -1,7 +1,6 @@
 // The blank layer over any register.
 ghost use Rattle.std.specs.Prelude.{◌≡◌};
 ghost use Rattle.registers.specs.Blanks.{blank as blank_of};
-ghost use Rattle.registers.specs.Laws.{blank_lawful};
 
 use crate::register::Register;
 
@@ -21,8 +20,6 @@ impl<R: Register> Blank<R> {
 
 impl<R: Register> Register for Blank<R> {
     ghost meaning = { λ b. blank_of (R.Register.meaning b.below) };
-
-    ghost lawful = { λ b. blank_lawful (R.Register.meaning b.below) (R.lawful b.below) };
 
     fn kinds(&self) -> u32 {
         self.below.kinds()

@@ -6,8 +6,10 @@ ghost use Rattle.registers.specs.Meaning.{Meaning, Lawful};
 pub trait Register {
     ghost meaning: { Self → Meaning };
 
+    // How many kinds; whoever asks learns that the register keeps the laws of every register.
     fn kinds(&self) -> u32
-        ensures { result ≡ (meaning self.now).kinds };
+        ensures answer { result ≡ (meaning self.now).kinds }
+        ensures lawful { Lawful (meaning self.now) };
 
     fn links(&self) -> u32
         ensures { result ≡ (meaning self.now).links };
@@ -22,7 +24,4 @@ pub trait Register {
     // Where a link leads from a record, if anywhere.
     fn follow(&self, link: u32, record: u32) -> Option<u32>
         ensures { result ≡ (meaning self.now).follow link «record» };
-
-    // The laws of every register.
-    ghost lawful: { (r : Self) → Lawful (meaning r) };
 }

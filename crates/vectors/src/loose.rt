@@ -1,5 +1,5 @@
 // A register that may pass the limits of a file, and whose links may lead astray.
-ghost use Rattle.vectors.specs.Loose.{loose as loose_of, loose_lawful};
+ghost use Rattle.vectors.specs.Loose.{loose as loose_of};
 
 use registers::register::Register;
 
@@ -16,8 +16,6 @@ pub struct Loose {
 
 impl Register for Loose {
     ghost meaning = { λ l. loose_of l.kinds l.records l.links l.from l.to l.led };
-
-    ghost lawful = { λ l. loose_lawful l.kinds l.records l.links l.from l.to l.led };
 
     fn kinds(&self) -> u32 {
         self.kinds

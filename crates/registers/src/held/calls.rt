@@ -39,8 +39,6 @@ impl<'a> Held<'a> {
 impl<'a> Register for Held<'a> {
     ghost meaning = { λ h. answers (held_file h) };
 
-    ghost lawful = { λ h. h.lawful };
-
     fn kinds(&self) -> u32 {
         self.outline.kinds
     }

@@ -1,9 +1,7 @@
 // The wheel's answers.
 ghost use Rattle.std.specs.Prelude.{◌≡◌, take};
-ghost use Rattle.bounded.specs.Listed.{listed};
 ghost use Rattle.registers.specs.Wheels.{wheel as wheel_of};
 ghost use Rattle.registers.specs.Turning.{meaning_of};
-ghost use Rattle.registers.specs.Laws.{wheel_lawful};
 
 use crate::register::Register;
 use crate::wheel::Wheel;
@@ -25,8 +23,6 @@ impl Wheel {
 
 impl Register for Wheel {
     ghost meaning = { λ w. meaning_of w };
-
-    ghost lawful = { λ w. wheel_lawful w.size (listed w.steps) };
 
     fn kinds(&self) -> u32 {
         1

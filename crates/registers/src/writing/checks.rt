@@ -1,5 +1,6 @@
 // What is tested before a register is written.
 ghost use Rattle.std.specs.Prelude.{◌≡◌, ◌≤◌, length};
+ghost use Rattle.registers.specs.Meaning.{Lawful};
 ghost use Rattle.registers.specs.Writing.{crowded, large, astray as astray_of, strays as strays_of, broken, lowest};
 ghost use Rattle.registers.specs.Parts.{file_words, row_words, links_words};
 
@@ -14,7 +15,8 @@ fn is_crowded<R: Register>(register: &R) -> bool
 
 // Whether a register passes the limits of a register file.
 pub(crate) fn is_large<R: Register>(register: &R) -> bool
-    ensures { result ≡ large (R.meaning register.now) }
+    ensures answer { result ≡ large (R.meaning register.now) }
+    ensures lawful { Lawful (R.meaning register.now) }
 {
     register.kinds() > 32 || register.links() > 64 || is_crowded(register)
 }
@@ -31,7 +33,13 @@ pub fn strays<R: Register>(register: &R, link: u32, from: u32, to: u32) -> bool
     ensures { result ≡ strays_of (R.meaning register.now) link from to }
 {
     let size = register.count(to);
-    (0..register.count(from)).any(|r| astray(size, register.follow(link, r)))
+    // No `any`: out of its closure the optimizer does not take the reading of the link's word, which then costs twice the time.
+    for r in 0..register.count(from) {
+        if astray(size, register.follow(link, r)) {
+            return true;
+        }
+    }
+    false
 }
 
 // Whether a link cannot be written.

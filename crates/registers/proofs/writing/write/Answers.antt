@@ -7,10 +7,10 @@ use Rattle.registers.proofs.WrittenBack.{answer_large, answer_leads, answer_memo
 use Rattle.registers.proofs.writing.write.Goals as goal
 
 pub size-requires : goal.size-requires
-size-requires g c = (writable _ (sym c.if-is_large.ensures) (sym c.in_default.ensures)).few_links
+size-requires g c = (writable _ (sym c.if-is_large.ensures.answer) (sym c.in_default.ensures)).few_links
 
 pub invariant_of-put_file : goal.invariant_of-put_file
-invariant_of-put_file g c = record { writable = writable _ (sym c.if-is_large.ensures) (sym c.in_default.ensures) }
+invariant_of-put_file g c = record { writable = writable _ (sym c.if-is_large.ensures.answer) (sym c.in_default.ensures) }
 
 -- all that is promised follows from the answer
 answered : (m : Meaning) (r : Result ℕ WriteFault) (old new : List ℕ) → Lawful m → (r, new) ≡ written m old → record { answer : (r, new) ≡ written m old; back : ReadBack m r new; again : SameWords m r new }
@@ -19,20 +19,20 @@ answered m r old new w e = record { answer = e; back = read_back _ _ _ _ w e; ag
 pub returns-then-is_large : goal.returns-then-is_large
 returns-then-is_large g c =
     let m = g.R.Register.meaning c.args.register.now in
-    answered m _ _ _ (g.met.R.Register.lawful c.args.register.now) (answer_large m c.args.out.now (sym c.if-is_large.ensures))
+    answered m _ _ _ c.if-is_large.ensures.lawful (answer_large m c.args.out.now (sym c.if-is_large.ensures.answer))
 
 pub returns-in-Some : goal.returns-in-Some
 returns-in-Some g c =
     let m = g.R.Register.meaning c.args.register.now in
-    answered m _ _ _ (g.met.R.Register.lawful c.args.register.now) (answer_leads m c.args.out.now c.in-Some.link (sym c.if-is_large.ensures) (sym c.in-Some.ensures))
+    answered m _ _ _ c.if-is_large.ensures.lawful (answer_leads m c.args.out.now c.in-Some.link (sym c.if-is_large.ensures.answer) (sym c.in-Some.ensures))
 
 pub returns-then-size-out : goal.returns-then-size-out
 returns-then-size-out g c =
     let m = g.R.Register.meaning c.args.register.now in
-    answered m _ _ _ (g.met.R.Register.lawful c.args.register.now) (answer_memory m c.args.out.now (sym c.if-is_large.ensures) (sym c.in_default.ensures) (omega arith))
+    answered m _ _ _ c.if-is_large.ensures.lawful (answer_memory m c.args.out.now (sym c.if-is_large.ensures.answer) (sym c.in_default.ensures) (omega arith))
 
 pub returns : goal.returns
 returns g c =
     let m = g.R.Register.meaning c.args.register.now in
-    answered m _ _ _ (g.met.R.Register.lawful c.args.register.now)
-    (answer_words m c.args.out.now c.put_file.result c.put_file.new.out (sym c.if-is_large.ensures) (sym c.in_default.ensures) c.put_file.ensures.size c.put_file.ensures.words (omega arith))
+    answered m _ _ _ c.if-is_large.ensures.lawful
+    (answer_words m c.args.out.now c.put_file.result c.put_file.new.out (sym c.if-is_large.ensures.answer) (sym c.in_default.ensures) c.put_file.ensures.size c.put_file.ensures.words (omega arith))

@@ -1,9 +1,14 @@
-use Rattle.std.proofs.Common.{rules, tests}
-use Rattle.registers.specs.Writing.{astray}
-use Rattle.registers.proofs.Asked.{any_asked}
+use Rattle.std.proofs.Common.{refl, arith}
+use Rattle.registers.specs.Writing.{some_below}
+use Rattle.registers.proofs.WrittenLists.{none_more, some_found}
 use Rattle.registers.proofs.writing.checks.strays.Goals as goal
 
-pub returns : goal.returns
-returns g c =
-    let m = g.R.Register.meaning c.args.register.now in
-    any_asked (λ r. astray (m.count c.args.to) (m.follow c.args.link r)) (m.count c.args.from) _ _ _ (cc) c.any.ensures.ran (λ x b t k. search (rules, tests))
+pub loop-r-init : goal.loop-r-init
+unfolding some_below
+loop-r-init g c = refl
+
+pub loop-r-preserved : goal.loop-r-preserved
+loop-r-preserved g c = none_more _ _ c.loop-r.invariant (cc)
+
+pub returns-then-astray : goal.returns-then-astray
+returns-then-astray g c = some_found _ c.loop-r.r _ (omega arith) (cc)

@@ -29,5 +29,5 @@ returns g c =
     let n = file_length (g.R.Register.meaning c.args.self.now.register.now) in
     record {
       size = omega arith;
-      words = file_put _ _ _ _ _ _ _ _ c.kinds-kinds.ensures c.put.ensures c.put_counts.ensures c.put_links-next.ensures.words c.put_links-next.ensures.next c.put-2.ensures;
+      words = file_put _ _ _ _ _ _ _ _ c.kinds-kinds.ensures.answer c.put.ensures c.put_counts.ensures c.put_links-next.ensures.words c.put_links-next.ensures.next c.put-2.ensures;
     }
