@@ -1,5 +1,6 @@
 -- From entry to entry: the lists of those met, as the loops make them.
 use Rattle.std.proofs.Common.{◌≡◌, ℕ, zero, suc, ◌+◌, ◌-◌, ◌<◌, ◌≤◌, List, [], ◌∷◌, length, None, sym, refl, ap, ◌∙◌, subst, add-zero, add-one, arith}
+use mathlib.Core.List.{is_set}
 use mathlib.Core.Logic.{∥∥₁_elim}
 use native.Mathlib.Nat.{ℕ_set}
 use native.Mathlib.Bridge.{le_prop}
@@ -63,14 +64,29 @@ module _ (n : Seen) where
 
 -- what no meeting changes
 module _ {n o : Seen} {f : Raw → List ℕ → List ℕ} (u : Meets f n o) (c : Counting n.rows n.numbering) where
-  same_number : (j : Raw → ℕ) → ((a : Raw) (xs : List ℕ) (b : Raw) → Kept a b xs → j b ≡ j a) → j o.rows ≡ j n.rows
-  same_number j same = ∥∥₁_elim c (ℕ_set _ _) (λ x. same x.0 (f x.0 x.1) o.rows (u.grows x.0 x.1 x.2).marked.kept ∙ sym (same x.0 x.1 n.rows x.2.marked.kept))
+  same_part : {A : Type 0} → IsSet A → (j : Raw → A) → ((a : Raw) (xs : List ℕ) (b : Raw) → Kept a b xs → j b ≡ j a) → j o.rows ≡ j n.rows
+  same_part set j same = ∥∥₁_elim c (set _ _) (λ x. same x.0 (f x.0 x.1) o.rows (u.grows x.0 x.1 x.2).marked.kept ∙ sym (same x.0 x.1 n.rows x.2.marked.kept))
 
   pub meets_given : o.rows.given ≡ n.rows.given
-  meets_given = same_number (λ r. r.given) same_given
+  meets_given = same_part ℕ_set (λ r. r.given) same_given
 
-  pub meets_kinds : o.rows.shape.kinds ≡ n.rows.shape.kinds
-  meets_kinds = same_number (λ r. r.shape.kinds) (λ a xs b k. ap (λ (r : Raw). r.shape.kinds) k.numbers)
+  in_shape : {A : Type 0} → IsSet A → (g : Shape → A) → g o.rows.shape ≡ g n.rows.shape
+  in_shape set g = same_part set (λ r. g r.shape) (λ a xs b k. ap (λ (r : Raw). g r.shape) k.numbers)
+
+  pub meets_shape : o.rows.shape ≡ n.rows.shape
+  meets_shape =
+      let number = in_shape ℕ_set in
+      let list = in_shape (is_set ℕ_set) in
+      λ j. record {
+        kinds = number (λ s. s.kinds) j;
+        counts = list (λ s. s.counts) j;
+        starts = list (λ s. s.starts) j;
+        lands = number (λ s. s.lands) j;
+        records = number (λ s. s.records) j;
+        base = number (λ s. s.base) j;
+        links = number (λ s. s.links) j;
+        capacity = number (λ s. s.capacity) j;
+      }
 
 pub visits : {n o : Seen} (i e : ℕ) → i < n.numbering.met → e ≡ row n.rows i 2 → Meets (λ a xs. of_cells (shown a) e a.shape.links xs) n o → Meets (λ a xs. visited a i xs) n o
 visits {n} i e h q u = record {

@@ -13,6 +13,10 @@ use Rattle.rows.proofs.Places.{inside_true, landing_low}
 use Rattle.rows.proofs.Shown.{same_state, held_in, held_out, waits_are}
 use Rattle.rows.proofs.Keeps.{tidy_by}
 
+-- a sound state in words that fit is tidy, if as many have waited as are dead
+pub tidy_of : (L : Loaded) (r : Raw) → Fits r → Sound L (shown r) → r.front + r.waits + rank (shown r).forward r.given ≡ r.given → Tidy r
+tidy_of L r f ok q = record { fits = f; lower = ok.lower; given = λ t w e. (ok.used t w e).0.below; queued = q }
+
 -- who waits was given
 first_in : (l : List ℕ) → 0 < length l → Mem (get_or l 0 0) l
 first_in [] h = absurd (omega arith)

@@ -15,12 +15,12 @@ use Rattle.machine.proofs.Runs.{cond_some, cond_else}
 use Rattle.rows.specs.declared.paths.Lead.{Lead}
 use Rattle.rows.specs.Layout.{Raw, Tidy, Within, shown}
 use Rattle.rows.specs.Walks.{Named}
-use Rattle.rows.specs.Standing.{Stands, Parts, rule_of, led_effect, lead_of, Holds}
+use Rattle.rows.specs.Standing.{Stands, Parts, rule_of, led_effect, lead_of, Leads}
 use Rattle.rows.proofs.Faults.{busy, calm}
 use Rattle.rows.proofs.Named.{walk_in_comes, sides_named}
 use Rattle.rows.proofs.Standing.{rule_named, map_links}
 use Rattle.rows.proofs.Outline.{told_some, told_none}
-use Rattle.rows.proofs.Leads.{led_there, there_is, lead_lost, lead_some, led_same}
+use Rattle.rows.proofs.Leads.{led_there, there_is, lead_some, led_same}
 
 -- what the code finds, by its tests
 module _ (L : Loaded) (r : Raw) where
@@ -61,8 +61,8 @@ module _ (L : Loaded) (r : Raw) where
     link_waiting h = rw (busy r h) refl
 
     module _ (quiet : r.waits ≤ 0) where
-      pub link_lost : None ≡ lead_of L i q → LinkTold (Err refusal.NotLiving)
-      link_lost n = let t = lead_lost L i q n in rw (calm r quiet, t) refl
+      pub link_lost : led_there L i q ≡ false → LinkTold (Err refusal.NotLiving)
+      link_lost t = rw (calm r quiet, t) refl
 
       pub link_found : (x : Lead) → Some x ≡ lead_of L i q → (path : List ℕ) → path ≡ L.link_map i → (y : Effect) → y ≡ led_effect (shown r) x path → LinkTold (Ok y)
       link_found x p path e y h = let t = (lead_some L i q x p).2 in rw (calm r quiet, t) (ap Ok (h ∙ led_same L i q (shown r) x p path e))
@@ -88,19 +88,19 @@ module _ (L : Loaded) (r : Raw) (tidy : Tidy r) where
         let a = told_ok (rule_fault L (shown r) e i) (rule_effect L (shown r) e i) y p in
         subst (Named r) (sym a.1) (rule_named L r f st i tidy e (rule_given a.0))
 
-  module _ (f : Found) (leads : List ℕ) (x : Holds L r f leads) (i q : ℕ) where
+  module _ (f : Found) (i : ℕ) (x : Lead) (l : Leads L r f i x) where
     within_landing : (k n : ℕ) → k < L.source_kinds → n < L.count k → Within r.shape r.given (landing k n)
     within_landing k n h m =
-        let a : k < r.shape.kinds = omega (arith, x.carries.kinds) in
-        (a, omega (arith, x.carries.counts k a))
+        let a : k < r.shape.kinds = omega (arith, l.carries.kinds) in
+        (a, omega (arith, l.carries.counts k a))
 
-    pub link_acts : (y : Effect) → Ok y ≡ answered (link_fault L (shown r) i q) (link_effect L (shown r) i q) → Named r y
+    pub link_acts : (y : Effect) → Ok y ≡ answered (link_fault L (shown r) i x.q) (link_effect L (shown r) i x.q) → Named r y
     link_acts y p =
-        let a = told_ok (link_fault L (shown r) i q) (link_effect L (shown r) i q) y p in
+        let a = told_ok (link_fault L (shown r) i x.q) (link_effect L (shown r) i x.q) y p in
         let b = cond_some (waits (shown r).waiting) refusal.Waiting _ a.0 in
-        let c = there_is L i q (cond_else (led_there L i q) refusal.NotLiving None b.1).0 in
-        let to : Slot = landing (L.source_to i) (L.lead i q) in
-        let from : Slot = landing (L.source_from i) q in
+        let c = there_is L i x.q (cond_else (led_there L i x.q) refusal.NotLiving None b.1).0 in
+        let to : Slot = landing (L.source_to i) (L.lead i x.q) in
+        let from : Slot = landing (L.source_from i) x.q in
         subst (Named r) (sym a.1) (sides_named r tidy (walk_in (shown r).held to []) (walk_in (shown r).held from (L.link_map i))
-        (walk_in_comes r tidy [] to (within_landing (L.source_to i) (L.lead i q) (x.accepted.to_in i c.0) (x.accepted.lead_in i q c.0 c.1)) tt)
-        (walk_in_comes r tidy (L.link_map i) from (within_landing (L.source_from i) q (x.accepted.from_in i c.0) c.1) (map_links L r f x.stands i)))
+        (walk_in_comes r tidy [] to (within_landing (L.source_to i) (L.lead i x.q) (l.accepted.to_in i c.0) (l.accepted.lead_in i x.q c.0 c.1)) tt)
+        (walk_in_comes r tidy (L.link_map i) from (within_landing (L.source_from i) x.q (l.accepted.from_in i c.0) c.1) (map_links L r f l.stands i)))

@@ -78,6 +78,18 @@ shown_found (Err f) = Err f
 abbrev pub led_effect : State → Lead → List ℕ → check.Effect
 led_effect s x path = check.sides (walk_in s.held (landing x.to x.led) []) (walk_in s.held (landing x.from x.q) path)
 
+-- what load took has the link i lead as x says
+pub record Leads (L : Loaded) (r : Raw) (f : Found) (i : ℕ) (x : Lead) : Type 0 where
+  pub stands : Stands L r f
+  pub carries : Carries L r.shape
+  pub accepted : Accepted L
+  pub from : i < L.source_links → L.source_from i ≡ x.from
+  pub to : i < L.source_links → L.source_to i ≡ x.to
+  pub led : i < L.source_links → x.q < L.count x.from → L.lead i x.q ≡ x.led
+
+abbrev pub Leading : Raw → Found → ℕ → Lead → Type 0
+Leading r f i x = (L : Loaded) × Leads L r f i x
+
 -- where the source link i leads the record q, if there is such a link and record
 abbrev pub lead_of : Loaded → ℕ → ℕ → Option Lead
 lead_of L i q =

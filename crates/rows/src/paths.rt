@@ -1,7 +1,6 @@
 // The paths of the problem that stands in a table's own words, and the checks along them.
 ghost use Rattle.std.specs.Prelude.{◌≡◌, ◌&&◌, ◌==◌};
 ghost use Rattle.problems.specs.Tokens.{shown_token};
-ghost use Rattle.bounded.specs.Listed.{listed};
 ghost use Rattle.machine.specs.Loaded.{Loaded};
 ghost use Rattle.machine.specs.State.{lives};
 ghost use Rattle.machine.specs.Checking.{rule_effect, link_effect};
@@ -10,11 +9,10 @@ ghost use Rattle.machine.specs.Tables.{outcome, answered};
 ghost use Rattle.rows.specs.Layout.{Tidy, Becomes};
 ghost use Rattle.rows.specs.View.{raw, view};
 ghost use Rattle.rows.specs.Walks.{links};
-ghost use Rattle.rows.specs.Standing.{Stands, Standing, parts_in, shown_parts, linked, rule_of, shown_found, Holds, Holding};
+ghost use Rattle.rows.specs.Standing.{Stands, Standing, parts_in, shown_parts, linked, rule_of, shown_found, Leads, Leading};
 
-use crate::Rows;
 use crate::checking::Effect;
-use crate::problem::Load;
+use crate::{Rows, Slot};
 use machine::answers::Outcome;
 use problems::{Found, link_map_at, rule_at};
 use words::faults::Refusal;
@@ -96,27 +94,28 @@ impl Rows<'_> {
         Ok(self.act(what))
     }
 
-    // What the check of the source link `i` finds at the record `q`, or why it is refused.
-    fn link_found(&self, load: &Load, i: u32, q: u32) -> Result<Effect, Refusal>
-        requires { Holding (raw self.now) load.now.found (listed load.now.leads) }
-        ensures { (L : Loaded) → Holds L (raw self.now) load.now.found (listed load.now.leads) → shown_found result ≡ answered (link_fault L (view self.now) i q) (link_effect L (view self.now) i q) }
+    // What the check of the source link `i` finds where it leads as `lead` says, or why it is refused.
+    fn link_found(&self, found: &Found, i: usize, lead: Lead) -> Result<Effect, Refusal>
+        ensures { (L : Loaded) → Leads L (raw self.now) found.now i lead → shown_found result ≡ answered (link_fault L (view self.now) i lead.q) (link_effect L (view self.now) i lead.q) }
     {
         if self.waits > 0 {
             return Err(Refusal::Waiting);
         }
-        let lead = self.lead(load, i, q).ok_or(Refusal::NotLiving)?;
-        let path = self.link_path(&load.found, i as usize);
+        if i >= found.source.links || !self.has(Slot::Landing(lead.from, lead.q)) {
+            return Err(Refusal::NotLiving);
+        }
+        let path = self.link_path(found, i);
         Ok(self.link_effect(lead, path))
     }
 
-    // Checks the source link `i` at the record `q`.
-    pub fn check_link(&mut self, load: &Load, i: u32, q: u32) -> Result<Outcome, Refusal>
+    // Checks the source link `i` where it leads as `lead` says.
+    pub fn check_link(&mut self, found: &Found, i: usize, lead: Lead) -> Result<Outcome, Refusal>
         requires tidy { Tidy (raw self.old) }
-        requires holding { Holding (raw self.old) load.now.found (listed load.now.leads) }
-        ensures is { (L : Loaded) → Holds L (raw self.old) load.now.found (listed load.now.leads) → result ≡ answered (link_fault L (view self.old) i q) (outcome (link_effect L (view self.old) i q)) }
-        ensures after { (L : Loaded) → Holds L (raw self.old) load.now.found (listed load.now.leads) → Becomes (raw self.old) (apply L (check_link i q)) (raw self.new) }
+        requires leading { Leading (raw self.old) found.now i lead }
+        ensures is { (L : Loaded) → Leads L (raw self.old) found.now i lead → result ≡ answered (link_fault L (view self.old) i lead.q) (outcome (link_effect L (view self.old) i lead.q)) }
+        ensures after { (L : Loaded) → Leads L (raw self.old) found.now i lead → Becomes (raw self.old) (apply L (check_link i lead.q)) (raw self.new) }
     {
-        let what = self.link_found(load, i, q)?;
+        let what = self.link_found(found, i, lead)?;
         Ok(self.act(what))
     }
 }

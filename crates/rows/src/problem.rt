@@ -3,7 +3,7 @@ ghost use Rattle.std.specs.Prelude.{◌≡◌, ◌<◌};
 ghost use Rattle.bounded.specs.Listed.{listed};
 ghost use Rattle.machine.specs.Loaded.{Loaded};
 ghost use Rattle.rows.specs.View.{raw};
-ghost use Rattle.rows.specs.Standing.{Stands, Holds, Holding, lead_of};
+ghost use Rattle.rows.specs.Standing.{Stands, Holds, Holding, Leads, lead_of};
 
 use crate::paths::Lead;
 use crate::{Rows, Slot};
@@ -45,8 +45,25 @@ impl Rows<'_> {
         found.source.ends(self.words, i).unwrap_or((0, 0))
     }
 
-    // The record `q` that the source link `i` leaves, and where it leads it, if there is such a link and record.
-    pub fn lead(&self, load: &Load, i: u32, q: u32) -> Option<Lead>
+    // The record `q` that the source link `i` leaves, and where it leads it; any record where there is no such link or record.
+    // No `Option`, so that `check_link` refuses for waiting entries first.
+    pub fn lead(&self, load: &Load, i: u32, q: u32) -> Lead
+        requires { ∥ Holding (raw self.now) load.now.found (listed load.now.leads) ∥₁ }
+        ensures led { (L : Loaded) → Holds L (raw self.now) load.now.found (listed load.now.leads) → Leads L (raw self.now) load.now.found i result }
+        ensures asked { result.q ≡ q }
+    {
+        let (from, to) = self.source_ends(&load.found, i);
+        let none = Lead {
+            from,
+            q,
+            to,
+            led: 0,
+        };
+        self.led(load, i, q).unwrap_or(none)
+    }
+
+    // The same, if there is such a link and record.
+    pub fn led(&self, load: &Load, i: u32, q: u32) -> Option<Lead>
         requires { ∥ Holding (raw self.now) load.now.found (listed load.now.leads) ∥₁ }
         ensures { (L : Loaded) → Holds L (raw self.now) load.now.found (listed load.now.leads) → result ≡ lead_of L i q }
     {

@@ -27,7 +27,7 @@ impl Search<'_> {
         ensures { Always self.now (λ L s. i < L.source_links → q < L.count (L.source_from i) → shown_task result ≡ link_at L s i q) }
     {
         let Search { rows, load } = self;
-        let lead = rows.lead(load, i, q)?;
+        let lead = rows.led(load, i, q)?;
         let path = rows.link_path(&load.found, i as usize);
         acts(rows.link_effect(lead, path), Task::Link(i, q))
     }

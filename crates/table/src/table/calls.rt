@@ -201,7 +201,8 @@ impl Table<'_> {
         let Some(load) = &self.load else {
             return Err(Refusal::State);
         };
-        self.rows.check_link(load, i, q)
+        let lead = self.rows.lead(load, i, q);
+        self.rows.check_link(&load.found, i as usize, lead)
     }
 
     // Numbers the living anew in their order, and drops the dead; tells how many.
