@@ -7,4 +7,5 @@ use Rattle.loading.proofs.offer.Offer.lowest_stray.Goals as goal
 pub returns : goal.returns
 returns g c =
     let p = problem_in c.args.self.now.problem.now in
-    find_asked (link_strays p (g.R.Register.meaning c.args.self.now.source.now)) (length p.source_links) _ _ _ (cc) c.find.ensures.ran (λ x b t k. search (rules, tests))
+    let e = find_asked (link_strays p (g.R.Register.meaning c.args.self.now.source.now)) (length p.source_links) _ _ _ (cc) c.find.ensures.ran (λ x b t k. search (rules, tests)) in
+    search (rules, tests)
