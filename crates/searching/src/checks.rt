@@ -2,7 +2,7 @@
 ghost use Rattle.std.specs.Prelude.{◌≡◌, ◌<◌, ◌==◌};
 ghost use Rattle.machine.specs.Shift as shift;
 ghost use Rattle.machine.specs.Shift.{lowest, only_if, acts};
-ghost use Rattle.rows.specs.Walks.{shown_effect};
+ghost use Rattle.rows.specs.Walks.{links, shown_effect};
 ghost use Rattle.searching.specs.Always.{Always};
 ghost use Rattle.searching.specs.Searches.{link_at, rule_at};
 ghost use Rattle.searching.specs.Tasks.{op_of, shown_task};
@@ -22,13 +22,12 @@ fn acts(what: Effect, task: Task) -> Option<Task>
 }
 
 impl Search<'_> {
-    // The check of the source link `i` at the record `q`, if it acts.
-    fn link_at(&self, i: u32, q: u32) -> Option<Task>
-        ensures { Always self.now (λ L s. i < L.source_links → q < L.count (L.source_from i) → shown_task result ≡ link_at L s i q) }
+    // The check of the source link `i`, whose path is given, at the record `q`, if it acts.
+    fn link_at(&self, i: u32, path: &[u32], q: u32) -> Option<Task>
+        ensures { Always self.now (λ L s. i < L.source_links → links path.now ≡ L.link_map i → q < L.count (L.source_from i) → shown_task result ≡ link_at L s i q) }
     {
         let Search { rows, load } = self;
         let lead = rows.led(load, i, q)?;
-        let path = rows.link_path(&load.found, i as usize);
         acts(rows.link_effect(lead, path), Task::Link(i, q))
     }
 
@@ -37,7 +36,11 @@ impl Search<'_> {
         ensures { Always self.now (λ L s. i < L.source_links → shown_task result ≡ lowest (L.count (L.source_from i)) (link_at L s i)) }
     {
         let (from, _) = self.rows.source_ends(&self.load.found, i);
-        lowest(self.rows.source.kind(from).records, |q| self.link_at(i, q))
+        let path = self.rows.link_path(&self.load.found, i as usize);
+        lowest(
+            self.rows.source.kind(from).records,
+            |q| self.link_at(i, path, q),
+        )
     }
 
     // The first check of a source link that acts.
