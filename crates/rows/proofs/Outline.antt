@@ -1,6 +1,5 @@
 -- What the outline of a problem says of the words of its links and kind maps.
-use Rattle.std.proofs.Common.{◌≡◌, ℕ, suc, ◌+◌, ◌/◌, ◌%◌, ◌<◌, ◌≤◌, Bool, true, false, cond, ltb, List, length, get_or, take, Some, None, Option, Ok, sym, refl, ap, ◌∙◌, inl, inr, arith, length-take}
-use Rattle.std.specs.Option.{unwrap_or}
+use Rattle.std.proofs.Common.{◌≡◌, ℕ, suc, ◌+◌, ◌/◌, ◌%◌, ◌<◌, ◌≤◌, Bool, true, false, cond, ltb, List, length, get_or, take, Some, None, Ok, sym, refl, ap, ◌∙◌, inl, inr, arith, length-take}
 use Rattle.std.proofs.lemmas.Bool.{lt-ltb, ltb-true}
 use Rattle.std.proofs.lemmas.Bool.Decides.{leb_tells}
 use Rattle.std.proofs.lemmas.List.{get_or-take}
@@ -126,12 +125,11 @@ module _ (L : Loaded) (r : Raw) (f : Found) (st : Stands L r f) where
     pub ends_some : (e : ℕ × ℕ) → Some e ≡ ends_of f.source r.ws l → (l < L.source_links) × (e ≡ (L.source_from l, L.source_to l))
     ends_some e n = let t = told_some (ltb l L.source_links) _ e (n ∙ source_ends_are) in (ltb-true l L.source_links t.0, t.1)
 
-    module _ (x : ℕ × ℕ) (o : Option (ℕ × ℕ)) (is : x ≡ unwrap_or o (0, 0)) where
-      pub source_ends : o ≡ ends_of f.source r.ws l → l < L.source_links → (L.source_from l ≡ x.0) × (L.source_to l ≡ x.1)
-      source_ends p h = let e = is ∙ ap (λ (z : Option (ℕ × ℕ)). unwrap_or z (0, 0)) (p ∙ source_ends_are) ∙ ap (λ b. unwrap_or (cond b (Some (L.source_from l, L.source_to l)) None) (0, 0)) (lt-ltb l L.source_links h) in (sym (ap (λ y. y.0) e), sym (ap (λ y. y.1) e))
+    pub source_ends : l < L.source_links → ends_of f.source r.ws l ≡ Some (L.source_from l, L.source_to l)
+    source_ends h = source_ends_are ∙ rw (lt-ltb l L.source_links h) refl
 
-      pub target_ends : o ≡ ends_of f.target r.ws l → l < L.links → (L.from l ≡ x.0) × (L.to l ≡ x.1)
-      target_ends p h = let e = is ∙ ap (λ (z : Option (ℕ × ℕ)). unwrap_or z (0, 0)) (p ∙ target_ends_are) ∙ ap (λ b. unwrap_or (cond b (Some (L.from l, L.to l)) None) (0, 0)) (lt-ltb l L.links h) in (sym (ap (λ y. y.0) e), sym (ap (λ y. y.1) e))
+    pub target_ends : l < L.links → ends_of f.target r.ws l ≡ Some (L.from l, L.to l)
+    target_ends h = target_ends_are ∙ rw (lt-ltb l L.links h) refl
 
   -- the word of a kind map
   module _ (k : ℕ) (h : k < f.source.kinds) where
