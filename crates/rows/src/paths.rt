@@ -51,8 +51,8 @@ impl Rows<'_> {
         parts_in(rule_at(&self.words[..self.lands], found, i))
     }
 
-    // The path of the source link `i`, which is empty where there is no such link. No `Option`: who asks has a lead along the link,
-    // so that there is one, and a `None` would add a branch that gives up and is never taken.
+    // The path of the source link `i`, which is empty where there is no such link. No `Option`: who asks knows that there is
+    // such a link, and a `None` would add a branch that gives up and is never taken.
     pub fn link_path<'b>(&'b self, found: &Found, i: usize) -> &'b [u32]
         ensures { (L : Loaded) → Stands L (raw self.now) found.now → links result.now ≡ L.link_map i }
     {
