@@ -1,14 +1,14 @@
 -- The first answer of the calls at the numbers of a range, lowest first.
-use Rattle.std.proofs.Common.{◌≡◌, ℕ, zero, suc, ◌<◌, ◌≤◌, ◌+◌, Some, None, Option, sym, refl, ap, ◌∙◌, subst, inl, inr, zero-add, arith}
+use Rattle.std.proofs.Common.{◌≡◌, ℕ, Bool, zero, suc, ◌<◌, ◌≤◌, ◌+◌, Some, None, Option, sym, refl, ap, ◌∙◌, subst, inl, inr, zero-add, arith}
 use Rattle.std.specs.Option.{IsSomeAnd, MatchOption, option_map}
 use Rattle.std.specs.Iterator.Runs.{Run, ItemsCountUp, CallKeepsClosure, AllItemsGive, IsFirstToGive}
 use Rattle.std.specs.Bool.{IsTrue}
 use Rattle.std.specs.Fn.{Mut, Called}
 use Rattle.std.proofs.iter.Yields.{nat_range_steps}
 use Rattle.std.proofs.iter.runs.Sources.{range_runs}
-use Rattle.std.proofs.lemmas.Bool.{cases_eq}
+use Rattle.std.proofs.lemmas.Bool.{cases_eq, cases_Bool}
 use Rattle.machine.specs.Calls.{Op}
-use Rattle.machine.specs.Shift.{or_else, lowest}
+use Rattle.machine.specs.Shift.{or_else, lowest, only_if}
 use Rattle.searching.specs.declared.Task.{Task}
 use Rattle.searching.specs.Tasks.{op_of, shown_task}
 
@@ -25,6 +25,11 @@ module _ (f : ℕ → Option Op) where
     | inl q ↦ here ∙ ap (λ x. or_else x (f i)) (lowest_none i none) ∙ ap (λ j. or_else (lowest j f) (f j)) q
     | inr q ↦ ap (λ x. or_else x (f n)) (lowest_some n i (omega arith) none o here)
   ]
+
+-- nothing is found where there is nothing to ask at each number
+pub no_rule : (m : ℕ) → m ≡ 0 → (n : ℕ) (b : ℕ → Bool) (f : ℕ → ℕ → Option Op) → None ≡ lowest n (λ e. only_if (b e) (lowest m (f e)))
+unfolding lowest
+no_rule m e n b f = lowest_none _ n (λ i lt. rw e (elim (cases_Bool (b i)) [ inl t ↦ rw t refl | inr t ↦ rw t refl ]))
 
 -- what holds of the item at place k of a range from 0 on holds of k
 at_place : (o : Option ℕ) (k : ℕ) (N : Type 0) (P : ℕ → Type 0) → option_map (λ y. y) o ≡ Some k → MatchOption o N P → P k

@@ -72,10 +72,13 @@ impl Search<'_> {
         lowest(self.load.found.rules.len() as u32, |i| self.rule_at(e, i))
     }
 
-    // The first check of a rule that acts.
+    // The first check of a rule that acts. Without rules no entry is looked at: a shift asks this at each step.
     pub(crate) fn rules(&self) -> Option<Task>
         ensures { Always self.now (λ L s. shown_task result ≡ shift.rule_next L s) }
     {
+        if self.load.found.rules.len() == 0 {
+            return None;
+        }
         lowest(self.rows.given as u32, |e| self.rule(e))
     }
 }
