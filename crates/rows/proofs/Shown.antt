@@ -2,7 +2,6 @@
 use Rattle.std.proofs.Common.{◌≡◌, ℕ, zero, suc, ◌+◌, ◌-◌, ◌<◌, ◌≤◌, true, false, cond, ◌&&◌, eqb, ltb, leb, List, map, length, get_or, set, Some, None, Option, sym, refl, ap, ◌∙◌, inl, inr, add-one, arith}
 use mathlib.Core.Path.{fun_ext}
 use Rattle.std.specs.List.{range_with_len}
-use Rattle.std.specs.Option.{SomeIff}
 use Rattle.std.proofs.lemmas.List.{length-set, get_or-set_same, get_or-set_other}
 use Rattle.std.proofs.lemmas.List.FromFn.{map-range_with_len_more, length-map-range_with_len}
 use Rattle.std.proofs.lemmas.Bool.{cases_Bool}
@@ -24,11 +23,6 @@ same_state s t n k f x w = λ i. record { given = n i; kind = λ e. k e i; forwa
 abbrev pub with : Raw → List ℕ → ℕ → ℕ → Raw
 with r ws given waits = record { ws = ws; shape = r.shape; given = given; front = r.front; waits = waits }
 
--- what a slot's word says, by a subtraction
-decoded : (w : ℕ) (o : Option ℕ) → SomeIff o (1 ≤ w) (w - 1) → o ≡ decode w
-decoded w None e = let z : eqb w 0 ≡ true = grind (arith, nat_tests) in rw z refl
-decoded w (Some x) e = let z : eqb w 0 ≡ false = (let h = e.0 in grind (arith, nat_tests)) in rw z (ap Some e.1)
-
 -- what a slot holds, by its word
 module _ (r : Raw) (t : Slot) where
   pub held_out : inside r.shape r.given t ≡ false → None ≡ (shown r).held t
@@ -39,8 +33,11 @@ module _ (r : Raw) (t : Slot) where
   unfolding held_of
   held_in h = rw h refl
 
-  pub held_told : (at : ℕ) → inside r.shape r.given t ≡ true → at ≡ spot r.shape t → (o : Option ℕ) → SomeIff o (1 ≤ get_or r.ws at 0) (get_or r.ws at 0 - 1) → o ≡ (shown r).held t
-  held_told at h p o e = decoded (get_or r.ws at 0) o e ∙ ap (λ (i : ℕ). decode (get_or r.ws i 0)) p ∙ sym (held_in h)
+  pub held_none : inside r.shape r.given t ≡ true → get_or r.ws (spot r.shape t) 0 ≡ 0 → (shown r).held t ≡ None
+  held_none h z = held_in h ∙ rw z refl
+
+  pub held_some : inside r.shape r.given t ≡ true → 1 ≤ get_or r.ws (spot r.shape t) 0 → (shown r).held t ≡ Some (get_or r.ws (spot r.shape t) 0 - 1)
+  held_some h n = let z : eqb (get_or r.ws (spot r.shape t) 0) 0 ≡ false = grind (arith, nat_tests) in held_in h ∙ rw z refl
 
 pub decode_more : (v : ℕ) → decode (v + 1) ≡ Some v
 decode_more v = let h : v + 1 - 1 ≡ v = omega arith in grind (arith, nat_tests)

@@ -18,15 +18,15 @@ module _ (h : Slot → Option ℕ) where
   walk_empty [] e n = refl
   walk_empty (w ∷ ws) e n = absurd (omega arith)
 
-  pub first_empty : (p : List ℕ) (e l : ℕ) → 1 ≤ length p → l ≡ fields (get_or p 0 0) → h (cell e l) ≡ None → None ≡ ended_at (walk h e (links p))
+  pub first_empty : (p : List ℕ) (e : ℕ) → 1 ≤ length p → h (cell e (fields (get_or p 0 0))) ≡ None → None ≡ ended_at (walk h e (links p))
   unfolding walk
-  first_empty [] e l n q o = absurd (omega arith)
-  first_empty (w ∷ ws) e l n q o = rw (← q, o)
+  first_empty [] e n o = absurd (omega arith)
+  first_empty (w ∷ ws) e n o = rw o
 
-  pub first_filled : (p : List ℕ) (e l x : ℕ) → 1 ≤ length p → l ≡ fields (get_or p 0 0) → h (cell e l) ≡ Some x → walk h x (links (take (length p - 1) (drop 1 p))) ≡ walk h e (links p)
+  pub first_filled : (p : List ℕ) (e x : ℕ) → 1 ≤ length p → h (cell e (fields (get_or p 0 0))) ≡ Some x → walk h x (links (take (length p - 1) (drop 1 p))) ≡ walk h e (links p)
   unfolding walk
-  first_filled [] e l x n q o = absurd (omega arith)
-  first_filled (w ∷ ws) e l x n q o = ap (λ (r : List ℕ). walk h x (links r)) (take_rest (w ∷ ws) 1) ∙ rw (← q, o)
+  first_filled [] e x n o = absurd (omega arith)
+  first_filled (w ∷ ws) e x n o = ap (λ (r : List ℕ). walk h x (links r)) (take_rest (w ∷ ws) 1) ∙ rw o
 
   -- a path of links by its last step
   pub walk_last : (ls : List ℕ) (l e : ℕ) → side_of (walk h e (ls ++ l ∷ [])) ≡ then_last h l (walk h e ls)

@@ -133,6 +133,7 @@ impl Rows<'_> {
     }
 
     // What the slot `t` holds.
+    #[tactic(auto, using(crate::proofs::Shown::held_out, crate::proofs::Shown::held_none, crate::proofs::Shown::held_some))]
     pub fn held(&self, t: Slot) -> Option<u32>
         ensures { result ≡ (view self.now).held (slot t) }
     {

@@ -17,6 +17,7 @@ pub enum Side {
 
 impl Rows<'_> {
     // Where the path leads from `e`, if each of its cells is filled.
+    #[tactic(auto, using(crate::proofs::Walks::walk_empty, crate::proofs::Walks::first_empty, crate::proofs::Walks::first_filled))]
     pub(crate) fn walk(&self, path: &[u32], e: u32) -> Option<u32>
         ensures { result ≡ ended_at (walk (view self.now).held e (links path.now)) }
     {
